@@ -1,0 +1,4 @@
+pub mod Members
+pub mod Made
+pub mod Configured
+pub mod Rows

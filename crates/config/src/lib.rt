@@ -1,0 +1,4 @@
+pub mod configuration;
+pub mod row;
+pub mod service;
+pub mod single;
