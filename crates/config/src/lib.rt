@@ -1,4 +1,5 @@
 pub mod configuration;
+pub mod members;
 pub mod row;
 pub mod service;
 pub mod single;

@@ -1,19 +1,10 @@
 ghost use mathlib.Core.Path.{_≡_};
 ghost use Prim.Native.Nat.{ℕ};
-ghost use Rattle.std.specs.declared.option.Option.the-variants.{Some};
-ghost use Rattle.config.specs.Members.{member};
 ghost use Rattle.config.specs.Made.{checked, made, rows-of, row-of};
 use super::Configuration;
+use crate::members::CONTROLLERS;
+use crate::members::has;
 use crate::row::ConfigRow;
-
-const CONTROLLERS: u32 = 8;
-
-// Whether the set has the controller.
-pub fn has(members: u8, controller: u32) -> bool
-    ensures { λ r. ⌜ r ≡ member members controller ⌝ }
-{
-    controller < CONTROLLERS && (members >> controller) % 2 == 1
-}
 
 impl Configuration {
     // The configuration that a row holds, where it holds one.

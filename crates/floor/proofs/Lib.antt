@@ -1,0 +1,3 @@
+pub mod Lawfuls
+pub mod States
+pub mod Stretches

@@ -1,0 +1,4 @@
+pub mod Ground
+pub mod Lawful
+pub mod New
+pub mod Seen

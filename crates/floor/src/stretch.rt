@@ -1,0 +1,94 @@
+ghost use mathlib.Core.Path.{_≡_};
+ghost use mathlib.Core.Bool.{Bool, cond};
+ghost use mathlib.Core.List.{List};
+ghost use Prim.Native.Nat.{ℕ, _+_, _-_, _*_, _<_, _≤_};
+ghost use lib.Dec.{ltb};
+ghost use lib.ListN.{length, set};
+ghost use Rattle.std.specs.Of.Vec.{vec-len};
+ghost use Rattle.service.specs.Meant.{meant-by};
+ghost use Rattle.entries.specs.Lists.{holds};
+ghost use Rattle.machine.specs.Machine.{stretch as stretch-of, part, run, put-entry};
+ghost use Rattle.machine.specs.declared.controller.Controller.{Controller};
+ghost use Rattle.floor.specs.Seen.{laid};
+use entries::Entries;
+use entries::EntriesMut;
+use entries::Entry;
+use machine::tables::Tables;
+use service::Service;
+
+// How many places a list has.
+pub const PLACES: usize = 64;
+
+pub const MOST_ENTRIES: u32 = 64;
+
+// How many envelopes the bag takes.
+pub const MOST_SENT: u32 = 1024;
+
+// Whether the list of controller c, which has `len` entries, holds the serial.
+pub fn holds_at<U: Copy>(entries: &[Entry<U>], c: usize, len: usize, serial: u32) -> bool
+    requires { ⌜ c < 8 ⌝ ∗ ⌜ len ≤ 64 ⌝ ∗ ⌜ 512 ≤ length (now entries) ⌝ }
+    ensures { λ r. ⌜ r ≡ holds (stretch-of (now (entries .entry)) c len) serial ⌝ }
+{
+    let list = Entries {
+        rows: &entries[c * PLACES..c * PLACES + len],
+    };
+    list.contains(serial)
+}
+
+// Appends to the list of `len` entries in these rows.
+fn append<U: Copy>(rows: &mut [Entry<U>], len: usize, entry: Entry<U>) -> bool
+    requires { ⌜ len ≤ length (now rows) ⌝ }
+    ensures room { λ r. ⌜ r ≡ ltb len (length (now (rows .entry))) ⌝ }
+    ensures rows { λ r. ⌜ now (rows .exit) ≡ cond r (set (now (rows .entry)) len entry) (now (rows .entry)) ⌝ }
+{
+    let mut list = EntriesMut { rows, len };
+    list.push(entry)
+}
+
+// Appends to the list of controller c, which has `len` entries, in its own stretch of the table.
+fn append_at<U: Copy>(entries: &mut [Entry<U>], c: usize, len: usize, entry: Entry<U>) -> bool
+    requires { ⌜ c < 8 ⌝ ∗ ⌜ len ≤ 64 ⌝ ∗ ⌜ 512 ≤ length (now entries) ⌝ }
+    ensures room { λ r. ⌜ r ≡ ltb len 64 ⌝ }
+    ensures rows { λ r. ⌜ now (entries .exit) ≡ cond r (set (now (entries .entry)) (c * 64 + len) entry) (now (entries .entry)) ⌝ }
+{
+    append(&mut entries[c * PLACES..c * PLACES + PLACES], len, entry)
+}
+
+// Appends to the list of controller c, which has `len` entries and room.
+pub fn append_entry<S: Service>(
+    tables: &mut Tables<S>,
+    c: usize,
+    len: usize,
+    entry: Entry<S::Update>,
+)
+    requires { ⌜ c < 8 ⌝ ∗ ⌜ len < 64 ⌝ ∗ ⌜ 512 ≤ vec-len (now tables .entries) ⌝ }
+    ensures after { λ _. ⌜ ((b : Bool) (ks : List Controller) (n : ℕ) → laid b ks n (now (tables .exit)) ≡ put-entry (meant-by S·Service) (laid b ks n (now (tables .entry))) (c * 64 + len) entry) ⌝ }
+    ensures bag { λ _. ⌜ vec-len (now (tables .exit) .envelopes) ≡ vec-len (now (tables .entry) .envelopes) ⌝ }
+{
+    append_at(&mut tables.entries, c, len, entry);
+}
+
+// The state that a list of entries makes of a state.
+fn run_entries<S: Service>(state: S, list: &[Entry<S::Update>]) -> S
+    ensures { λ r. ⌜ r ≡ run (meant-by S·Service) state (now (list .entry)) ⌝ }
+{
+    let mut state = state;
+    for e in list {
+        state = state.apply(e.update);
+    }
+    state
+}
+
+// The same of the places from `from` to `to` of controller c's list.
+pub fn run_part<S: Service>(
+    state: S,
+    entries: &[Entry<S::Update>],
+    c: usize,
+    from: usize,
+    to: usize,
+) -> S
+    requires { ⌜ c < 8 ⌝ ∗ ⌜ from ≤ to ⌝ ∗ ⌜ to ≤ 64 ⌝ ∗ ⌜ 512 ≤ length (now entries) ⌝ }
+    ensures { λ r. ⌜ r ≡ run (meant-by S·Service) state (part (now (entries .entry)) c from (to - from)) ⌝ }
+{
+    run_entries(state, &entries[c * PLACES + from..c * PLACES + to])
+}

@@ -1,0 +1,6 @@
+pub mod call;
+pub mod controller;
+pub mod convert;
+pub mod envelope;
+pub mod fault;
+pub mod tables;
