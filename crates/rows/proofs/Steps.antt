@@ -8,7 +8,8 @@ use mathlib.Core.List.{List, [], _∷_}
 use lib.Dec.{eqb}
 use lib.ListN.{length, take, drop}
 use Rattle.std.specs.declared.option.Option.the-variants.{Some}
-use Rattle.rows.specs.Sheet.{ended, begin-with, rows, row-length, fields, first-field, after-comma, fields-of}
+use Rattle.rows.specs.Sheet.{ended, begin-with, rows, row-length, fields, fields-of}
+use Rattle.rows.proofs.Cuts.{first-field, after-comma}
 
 -- a sheet that is not empty is its first row and the rows of what follows the first CR LF
 pub rows-step : (bs : List ℕ) → 0 < length bs → rows bs ≡ take (row-length bs) bs ∷ rows (drop (row-length bs + 2) bs)

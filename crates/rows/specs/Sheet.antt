@@ -38,16 +38,6 @@ abbrev pub fields : List ℕ → List (List ℕ)
 fields [] = [] ∷ []
 fields (b ∷ bs) = cond (eqb b 44) ([] ∷ fields bs) (begin-with b (fields bs))
 
--- the bytes before the first comma, or all where there is none
-abbrev pub first-field : List ℕ → List ℕ
-first-field [] = []
-first-field (b ∷ bs) = cond (eqb b 44) [] (b ∷ first-field bs)
-
--- what follows the first comma, where there is one
-abbrev pub after-comma : List ℕ → Option (List ℕ)
-after-comma [] = None
-after-comma (b ∷ bs) = cond (eqb b 44) (Some bs) (after-comma bs)
-
 -- the fields of what follows a comma, which are none where there is none
 abbrev pub fields-of : Option (List ℕ) → List (List ℕ)
 fields-of None = []

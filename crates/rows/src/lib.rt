@@ -1,13 +1,13 @@
 ghost use mathlib.Core.Path.{_≡_};
 ghost use mathlib.Core.Bool.{cond};
-ghost use mathlib.Core.List.{_++_};
+ghost use mathlib.Core.List.{[], _∷_, _++_};
 ghost use Prim.Native.Nat.{_+_, _<_, _≤_};
 ghost use lib.ListN.{length};
-ghost use Rattle.rows.specs.Sheet.{row-length, printable, first-field, after-comma, is-number, value-after, said-of};
+ghost use Rattle.rows.specs.Sheet.{rows, row-length, printable, fields, fields-of, is-number, value-after, said-of};
 ghost use Rattle.rows.specs.Tokens.{said, part-of};
 ghost use Rattle.rows.specs.Lines.{text};
 ghost use Rattle.std.specs.Of.String.{string-bytes};
-ghost use Rattle.std.specs.Options.{mapped};
+ghost use Rattle.std.specs.Options.{mapped, Cases as BySome};
 ghost use Rattle.std.specs.Results.{isOk};
 ghost use Rattle.std.specs.declared.option.Option.the-variants.{Some, None};
 use std::alloc::AllocError;
@@ -34,6 +34,13 @@ pub enum Token<'a> {
     Other { part: &'a [u8] },
 }
 
+// A sheet's first row without its CR LF, and what follows it.
+#[derive(Clone, Copy)]
+pub struct FirstRow<'a> {
+    pub row: &'a [u8],
+    pub rest: &'a [u8],
+}
+
 // A row's first field, and what follows its comma.
 #[derive(Clone, Copy)]
 pub struct Cut<'a> {
@@ -42,7 +49,7 @@ pub struct Cut<'a> {
 }
 
 // The number of bytes before the first CR LF, or of all where there is none.
-pub fn row_length(sheet: &[u8]) -> usize
+fn row_length(sheet: &[u8]) -> usize
     ensures value { λ r. ⌜ r ≡ row-length (now (sheet .entry)) ⌝ }
     ensures within { λ r. ⌜ r ≤ length (now (sheet .entry)) ⌝ }
     ensures pair { λ r. ⌜ (r < length (now (sheet .entry)) → r + 2 ≤ length (now (sheet .entry))) ⌝ }
@@ -53,6 +60,26 @@ pub fn row_length(sheet: &[u8]) -> usize
         }
     }
     sheet.len()
+}
+
+// The sheet's first row and what follows it; none where the sheet is empty.
+pub fn first_row<'a>(sheet: &'a [u8]) -> Option<FirstRow<'a>>
+    ensures { λ r. ⌜ BySome r (rows (now (sheet .entry)) ≡ []) (λ f. (rows (now (sheet .entry)) ≡ now (f .row) ∷ rows (now (f .rest))) × (length (now (f .rest)) < length (now (sheet .entry)))) ⌝ }
+{
+    if sheet.is_empty() {
+        return None;
+    }
+    let end = row_length(sheet);
+    if end == sheet.len() {
+        return Some(FirstRow {
+            row: sheet,
+            rest: &sheet[end..],
+        });
+    }
+    Some(FirstRow {
+        row: &sheet[0..end],
+        rest: &sheet[end + 2..],
+    })
 }
 
 // Whether each byte is printable, and no space.
@@ -103,9 +130,8 @@ fn told<'a>(part: &'a [u8]) -> Token<'a>
 
 // The row's first field, and what follows its comma.
 pub fn first_field<'a>(row: &'a [u8]) -> Cut<'a>
-    ensures said { λ r. ⌜ said (r .first) ≡ said-of (first-field (now (row .entry))) ⌝ }
-    ensures part { λ r. ⌜ part-of (r .first) ≡ first-field (now (row .entry)) ⌝ }
-    ensures rest { λ r. ⌜ mapped now (r .rest) ≡ after-comma (now (row .entry)) ⌝ }
+    ensures said { λ r. ⌜ said (r .first) ≡ said-of (part-of (r .first)) ⌝ }
+    ensures fields { λ r. ⌜ fields (now (row .entry)) ≡ part-of (r .first) ∷ fields-of (mapped now (r .rest)) ⌝ }
 {
     for (i, b) in row.iter().enumerate() {
         if *b == COMMA {

@@ -1,15 +1,18 @@
 use native.Mathlib.Omega.{arith}
 use native.Mathlib.Nat.{sub-zero}
-use mathlib.Core.Path.{_≡_, _∙_, ap}
+use mathlib.Core.Path.{_≡_, _∙_}
 use mathlib.Core.Bool.{cond}
 use mathlib.Core.List.{List, [], _∷_, _++_}
 use Prim.Native.Nat.{ℕ, _<_, _≤_, _+_, _-_}
 use lib.Dec.{eqb}
 use lib.ListN.{length, take, drop, getD}
-use Rattle.std.specs.declared.option.Option.the-variants.{Some}
+use Rattle.std.specs.declared.option.Option.{Option}
+use Rattle.std.specs.declared.option.Option.the-variants.{Some, None}
 use Rattle.std.proofs.shelf.Lists.{at-drop-more, at-drop-all, take-more, take-all, take-rest, append-assoc, append-nil}
 use Rattle.std.proofs.shelf.Ways.{tells}
-use Rattle.rows.specs.Sheet.{first-field, after-comma, said-of}
+use Rattle.rows.specs.Sheet.{fields, fields-of}
+use Rattle.rows.proofs.Cuts.{first-field, after-comma}
+use Rattle.rows.proofs.Steps.{fields-step}
 use Rattle.rows.proofs.first_field.Needs as need
 
 -- one byte more
@@ -32,12 +35,19 @@ more xs i h n e =
 all : (xs : List ℕ) (i : ℕ) → length xs ≤ i → take i xs ++ first-field (drop i xs) ≡ first-field xs → xs ≡ first-field xs
 all xs i h e = let n = at-drop-all first-field xs i h in rw (n, append-nil, take-all i xs h) at e
 
+-- a cut at the first comma gives the row's fields
+fields-cut : (xs : List ℕ) (p : List ℕ) (o : Option (List ℕ)) → p ≡ first-field xs → o ≡ after-comma xs → fields xs ≡ p ∷ fields-of o
+fields-cut xs p o e q = let s = fields-step xs in cc
+
 pub returns-then-b-eq-COMMA : need.returns-then-b-eq-COMMA
 returns-then-b-eq-COMMA c =
-    let f = comma (c .args .row .now) (c .loop-i .i) (omega arith) (c .if-b-eq-COMMA .taken) (c .loop-i .inv .0) in
-    let a = after (c .args .row .now) (c .loop-i .i) (omega arith) in
-    let t = take-rest (c .args .row .now) (c .loop-i .i + 1) in
-    record { said = c .told .ensures .said ∙ ap said-of f; part = c .told .ensures .part ∙ f; rest = grind (arith, tells) }
+    let xs = c .args .row .now in
+    let f = comma xs (c .loop-i .i) (omega arith) (c .if-b-eq-COMMA .taken) (c .loop-i .inv .0) in
+    let a = after xs (c .loop-i .i) (omega arith) in
+    let t = take-rest xs (c .loop-i .i + 1) in
+    let said-told = c .told .ensures .said in
+    let part-told = c .told .ensures .part in
+    record { said = cc; fields = fields-cut xs _ (Some (take (length xs - (c .loop-i .i + 1)) (drop (c .loop-i .i + 1) xs))) (part-told ∙ f) (grind (arith, tells)) }
 
 pub loop-i-again : need.loop-i-again
 loop-i-again c =
@@ -46,6 +56,9 @@ loop-i-again c =
 
 pub returns : need.returns
 returns c =
-    let f = all (c .args .row .now) (c .loop-i .i) (omega arith) (c .loop-i .inv .0) in
-    let a = at-drop-all after-comma (c .args .row .now) (c .loop-i .i) (omega arith) in
-    record { said = c .told-2 .ensures .said ∙ ap said-of f; part = c .told-2 .ensures .part ∙ f; rest = grind (arith, tells) }
+    let xs = c .args .row .now in
+    let f = all xs (c .loop-i .i) (omega arith) (c .loop-i .inv .0) in
+    let a = at-drop-all after-comma xs (c .loop-i .i) (omega arith) in
+    let said-told = c .told-2 .ensures .said in
+    let part-told = c .told-2 .ensures .part in
+    record { said = cc; fields = fields-cut xs _ None (part-told ∙ f) (grind (arith, tells)) }

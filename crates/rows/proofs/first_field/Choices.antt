@@ -1,7 +1,7 @@
 use mathlib.Core.Path.{_≡_}
 use mathlib.Core.List.{_++_}
 use lib.ListN.{take, drop}
-use Rattle.rows.specs.Sheet.{first-field, after-comma}
+use Rattle.rows.proofs.Cuts.{first-field, after-comma}
 use Rattle.rows.proofs.first_field.Given as given
 
 abbrev pub Inv-loop-i : given.InvT-loop-i

@@ -1,0 +1,5 @@
+pub mod Faults
+pub mod Verbs
+pub mod Reading
+pub mod Playing
+pub mod Seated

@@ -1,0 +1,7 @@
+pub mod convert;
+pub mod fault;
+pub mod line;
+pub mod player;
+pub mod read;
+pub mod tally;
+pub mod verb;
