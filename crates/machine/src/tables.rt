@@ -1,3 +1,5 @@
+pub mod make;
+
 use crate::envelope::Envelope;
 use entries::Entry;
 use service::Service;

@@ -31,8 +31,8 @@ module _ (M : Meant) (V : Verbs (M .Command)) where
   going-none w rs o = record { text = refl; after = refl; rows = omega arith; granted = omega arith; few = omega arith }
 
   pub going-more : (w₀ : Here M V) (rs₀ : List (List ℕ)) (o₀ : List ℕ) (w : Here M V) (r : List ℕ) (rs : List (List ℕ)) (o : List ℕ) (n g : ℕ)
-    → Going w₀ rs₀ o₀ w (r ∷ rs) o n g
-    → Going w₀ rs₀ o₀ (row-after M V w r) rs (o ++ line-text (line-of (n + 1) (row-answer M V w r))) (n + 1) (g + cond (eqb (line-of (n + 1) (row-answer M V w r) .sheet) 0) 1 0)
+      → Going w₀ rs₀ o₀ w (r ∷ rs) o n g
+      → Going w₀ rs₀ o₀ (row-after M V w r) rs (o ++ line-text (line-of (n + 1) (row-answer M V w r))) (n + 1) (g + cond (eqb (line-of (n + 1) (row-answer M V w r) .sheet) 0) 1 0)
   going-more w₀ rs₀ o₀ w r rs o n g h =
       let l = line-of (n + 1) (row-answer M V w r) in
       record {
@@ -49,10 +49,10 @@ module _ (M : Meant) (V : Verbs (M .Command)) where
 
   -- the same, of what the code has at hand after one row more
   pub going-step : (w₀ : Here M V) (rs₀ : List (List ℕ)) (o₀ : List ℕ) (w w′ : Here M V) (r : List ℕ) (rs rs′ : List (List ℕ)) (o o′ : List ℕ) (n n′ g g′ : ℕ)
-    (l : Line) (a : Result ℕ SheetFault)
-    → Going w₀ rs₀ o₀ w rs o n g → rs ≡ r ∷ rs′ → a ≡ row-answer M V w r → w′ ≡ row-after M V w r → l ≡ line-of (n + 1) a → o′ ≡ o ++ line-text l
-    → n′ ≡ n + 1 → g′ ≡ g + cond (eqb (l .sheet) 0) 1 0
-    → Going w₀ rs₀ o₀ w′ rs′ o′ n′ g′
+      (l : Line) (a : Result ℕ SheetFault)
+      → Going w₀ rs₀ o₀ w rs o n g → rs ≡ r ∷ rs′ → a ≡ row-answer M V w r → w′ ≡ row-after M V w r → l ≡ line-of (n + 1) a → o′ ≡ o ++ line-text l
+      → n′ ≡ n + 1 → g′ ≡ g + cond (eqb (l .sheet) 0) 1 0
+      → Going w₀ rs₀ o₀ w′ rs′ o′ n′ g′
   going-step w₀ rs₀ o₀ w w′ r rs rs′ o o′ n n′ g g′ l a h er ea ew el eo en eg =
       rw (ew, eo, en, eg, el, ea) (going-more w₀ rs₀ o₀ w r rs′ o n g (rw er at h))
 

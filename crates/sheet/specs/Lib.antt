@@ -3,3 +3,4 @@ pub mod Verbs
 pub mod Reading
 pub mod Playing
 pub mod Seated
+pub mod Fresh

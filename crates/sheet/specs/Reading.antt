@@ -62,9 +62,9 @@ module _ {C : Type 0} (V : Verbs C) where
   abbrev pub call-of : ℕ → List (List ℕ) → Result (Call C) SheetFault
   call-of b args =
       cond (eqb b 102) (then (two-numbers args) (λ p. Ok (Start (p .0) (p .1))))
-        (cond (eqb b 111) (order-of args)
-          (cond (eqb b 115) (then (one-number args) (λ c. Ok (Settle c)))
-            (cond (eqb b 104) (then (two-numbers args) (λ p. Ok (Hand (p .0) (p .1)))) (Err UnknownLetter))))
+      (cond (eqb b 111) (order-of args)
+      (cond (eqb b 115) (then (one-number args) (λ c. Ok (Settle c)))
+      (cond (eqb b 104) (then (two-numbers args) (λ p. Ok (Hand (p .0) (p .1)))) (Err UnknownLetter))))
 
   abbrev pub said-call : Said → List (List ℕ) → Result (Call C) SheetFault
   said-call (letter b) args = call-of b args

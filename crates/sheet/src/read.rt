@@ -49,7 +49,10 @@ fn two_numbers(fields: Option<&[u8]>) -> Result<(u32, u32), SheetFault>
     let Some(row) = rest else {
         return Err(SheetFault::WrongCount);
     };
-    let Cut { first: second, rest } = first_field(row);
+    let Cut {
+        first: second,
+        rest,
+    } = first_field(row);
     let None = rest else {
         return Err(SheetFault::WrongCount);
     };
@@ -59,7 +62,12 @@ fn two_numbers(fields: Option<&[u8]>) -> Result<(u32, u32), SheetFault>
 }
 
 // An order's call, once its verb is known: three numbers, the last of which the verb takes.
-fn order_with<V: Verb>(controller: Token<'_>, serial: Token<'_>, verb: V, fields: Option<&[u8]>) -> Result<Call<V::Command>, SheetFault>
+fn order_with<V: Verb>(
+    controller: Token<'_>,
+    serial: Token<'_>,
+    verb: V,
+    fields: Option<&[u8]>,
+) -> Result<Call<V::Command>, SheetFault>
     ensures { λ r. ⌜ r ≡ order-with (verbs-by V·Verb) (said (controller .entry)) (said (serial .entry)) verb (fields-of (mapped behind (fields .entry))) ⌝ }
 {
     let Some(row) = fields else {
@@ -99,15 +107,24 @@ fn read_order<V: Verb>(fields: Option<&[u8]>) -> Result<Call<V::Command>, SheetF
     let Some(row) = fields else {
         return Err(SheetFault::WrongCount);
     };
-    let Cut { first: controller, rest } = first_field(row);
+    let Cut {
+        first: controller,
+        rest,
+    } = first_field(row);
     let Some(row) = rest else {
         return Err(SheetFault::WrongCount);
     };
-    let Cut { first: serial, rest } = first_field(row);
+    let Cut {
+        first: serial,
+        rest,
+    } = first_field(row);
     let Some(row) = rest else {
         return Err(SheetFault::WrongCount);
     };
-    let Cut { first: letter, rest } = first_field(row);
+    let Cut {
+        first: letter,
+        rest,
+    } = first_field(row);
     let verb: V = verb_in(letter)?;
     order_with(controller, serial, verb, rest)
 }
@@ -135,7 +152,10 @@ pub fn read_row<V: Verb>(row: &[u8]) -> Result<Call<V::Command>, SheetFault>
         }
         'h' => {
             let (envelope, controller) = two_numbers(rest)?;
-            Ok(Call::Hand { envelope, controller })
+            Ok(Call::Hand {
+                envelope,
+                controller,
+            })
         }
         _ => Err(SheetFault::UnknownLetter),
     }

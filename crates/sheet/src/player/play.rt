@@ -35,12 +35,17 @@ impl<S: Service, C: ConfigService> Player<S, C> {
         ensures after { λ _. ⌜ world (C·ConfigService .meaning) (now (self .exit)) ≡ row-after (meant-by S·Service) (verbs-by V·Verb) (world (C·ConfigService .meaning) (now (self .entry))) (now (row .entry)) ⌝ }
     {
         let call = read_row::<V>(row)?;
-        let answer = self.floor.perform(&mut self.tables, &mut self.config, call)?;
+        let answer = self.floor
+            .perform(&mut self.tables, &mut self.config, call)?;
         Ok(answer)
     }
 
     // Plays a sheet, and writes its lines at the end of `out`.
-    pub fn play<V: Verb<Command = S::Command>>(&mut self, sheet: &[u8], out: &mut String) -> Result<Tally, AllocError>
+    pub fn play<V: Verb<Command = S::Command>>(
+        &mut self,
+        sheet: &[u8],
+        out: &mut String,
+    ) -> Result<Tally, AllocError>
         ensures { λ r. ⌜ made r (λ t. Played (meant-by S·Service) (verbs-by V·Verb) (world (C·ConfigService .meaning) (now (self .entry))) (now (sheet .entry)) (string-bytes (now (out .entry))) (world (C·ConfigService .meaning) (now (self .exit))) (string-bytes (now (out .exit))) t) ⌝ }
     {
         if sheet.len() > MOST_BYTES {
@@ -52,17 +57,27 @@ impl<S: Service, C: ConfigService> Player<S, C> {
                 answer: 0,
             };
             line.write(out)?;
-            return Ok(Tally { rows: 0, granted: 0 });
+            return Ok(Tally {
+                rows: 0,
+                granted: 0,
+            });
         }
         self.play_rows::<V>(sheet, out)
     }
 
     // Plays the rows of a sheet that is not too long.
-    fn play_rows<V: Verb<Command = S::Command>>(&mut self, sheet: &[u8], out: &mut String) -> Result<Tally, AllocError>
+    fn play_rows<V: Verb<Command = S::Command>>(
+        &mut self,
+        sheet: &[u8],
+        out: &mut String,
+    ) -> Result<Tally, AllocError>
         requires { ⌜ length (now sheet) ≤ 65536 ⌝ }
         ensures { λ r. ⌜ made r (λ t. RowsPlayed (meant-by S·Service) (verbs-by V·Verb) (world (C·ConfigService .meaning) (now (self .entry))) (rows (now (sheet .entry))) (string-bytes (now (out .entry))) (world (C·ConfigService .meaning) (now (self .exit))) (string-bytes (now (out .exit))) t) ⌝ }
     {
-        let mut tally = Tally { rows: 0, granted: 0 };
+        let mut tally = Tally {
+            rows: 0,
+            granted: 0,
+        };
         let mut left = sheet;
         while let Some(FirstRow { row, rest }) = first_row(left) {
             tally.rows += 1;

@@ -11,8 +11,9 @@ use Rattle.sheet.proofs.player.Player.play_rows.Needs as need
 pub loop-row-again : need.loop-row-again
 loop-row-again g c =
     let first = c .in-Some .ensures tt in
-    let written : string-bytes (c .write .last .out) ≡ string-bytes (c .loop-row .out) ++ text (c .line-of-line .result) = c .in-Continue-write .ensures tt in
-    ( omega (arith, first .1)
-    , going-step (meant-by (g .S·Service)) (verbs-by (g .V·Verb)) _ _ _ _ _ _ _ _ _ _ _ _ _ _ (c .line-of-line .result) (c .play-row .result)
-        (c .loop-row .inv .1) (first .0) (c .play-row .ensures .answer) (c .play-row .ensures .after) (c .line-of-line .ensures) written
-        (c .count .ensures .rows) (c .count .ensures .granted))
+    let written : string-bytes (c .write .last .out) ≡ string-bytes (c .loop-row .out) ++ text (c .line-of-line .result) = c .in-Continue-write .ensures tt in (
+      omega (arith, first .1),
+      going-step (meant-by (g .S·Service)) (verbs-by (g .V·Verb)) _ _ _ _ _ _ _ _ _ _ _ _ _ _ (c .line-of-line .result) (c .play-row .result)
+          (c .loop-row .inv .1) (first .0) (c .play-row .ensures .answer) (c .play-row .ensures .after) (c .line-of-line .ensures) written
+          (c .count .ensures .rows) (c .count .ensures .granted),
+    )
