@@ -1,15 +1,17 @@
+use program::Trouble;
+use program::TroubleFromAlloc;
+use program::ended;
 use program::read_sheet;
 use program::write_output;
 use roll_sheet::play;
-use std::error::AnyError;
 
-fn run(rt: &LibcRuntime) -> Result<(), AnyError> {
+fn run(rt: &LibcRuntime) -> Result<(), Trouble> {
     let sheet = read_sheet(rt)?;
     let output = play(rt.alloc(), &sheet)?;
-    write_output(rt, &output)
+    write_output(rt, sheet.len(), &output)
 }
 
 // Plays a run sheet with the roll on a single table.
-fn main(rt: LibcRuntime) -> Result<(), AnyError> {
-    rt.report(run(&rt))
+fn main(rt: LibcRuntime) -> Result<(), Trouble> {
+    ended(&rt, run(&rt))
 }

@@ -23,7 +23,7 @@ use service::Service;
 use std::alloc::AllocError;
 
 // How many bytes a sheet may have.
-const MOST_BYTES: usize = 65_536;
+pub const MOST_BYTES: usize = 65_536;
 
 // The number of a sheet that has more.
 const TOO_LONG: u32 = 6;
