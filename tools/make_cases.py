@@ -2,6 +2,7 @@
 """Write run sheets, and the lines a program must write for them, into a folder.
 
     python3 tools/make_cases.py FOLDER          the roll program that knows f, o, s and h
+    python3 tools/make_cases.py --carousel FOLDER   the carousel program's
     python3 tools/make_cases.py --ten FOLDER    sheets that need all ten calls
 
 For each sheet NAME.sheet and NAME.lines are written as bytes, CR LF kept. Each row is put
@@ -320,6 +321,33 @@ BAG = [
 ]
 
 
+# ---------------------------------------------------------------- the carousel on the triple
+
+# The leader's speculative carousel stands behind each fetch, station by station.
+CAROUSEL = [
+    no("o,0,1,t,3", 2), ok("f,3,0", 1),
+    ok("o,0,1,t,3", 3),   # 3 1 2 0 4 5 6 7
+    ok("o,0,2,t,3", 0),   # as it was
+    ok("o,0,3,t,0", 3),   # 0 1 2 3 4 5 6 7
+    ok("o,0,4,t,7", 7),   # 7 1 2 3 4 5 6 0
+    ok("o,0,5,t,5", 5),   # 5 1 2 3 4 7 6 0
+    ok("o,0,6,t,0", 7),   # 0 1 2 3 4 7 6 5
+    ok("o,0,7,t,7", 5),   # 7 1 2 3 4 0 6 5
+    ok("o,0,8,t,5", 7),   # 5 1 2 3 4 0 6 7
+    ok("o,0,9,t,0", 5),   # 0 1 2 3 4 5 6 7
+    ok("o,0,10,t,6", 6),  # 6 1 2 3 4 5 0 7
+    no("o,0,11,t,8", 12, 1), no("o,0,11,t,999999999", 12, 1), ok("o,0,11,t,006", 0),
+    no("o,0,1,t,3", 10), no("o,0,1,t,8", 10), no("o,1,12,t,2", 7), no("o,8,12,t,2", 3),
+    *all_bad(2, "o,0,12,l,5", "o,0,12,d,5", "o,0,12,T,5", "o,0,12,tt,5", "o,0,12,,5"),
+    *all_bad(3, "o,0,12", "o,0,12,t", "o,0,12,t,1,1"), *all_bad(4, "o,0,12,t,", "o,0,12,t,+1"),
+    # Envelopes 0 to 10 are the ACCEPTs; HELD and COMMIT follow in turn.
+    no("h,1,1", 9), ok("h,0,1", 0), no("h,0,1", 8), ok("h,11,0", 0), ok("s,0", 1),
+    ok("h,12,1", 1), ok("h,12,0", 1), no("h,12,0", 8), no("s,0", 8),
+    ok("h,1,1", 0), ok("h,2,1", 0), ok("h,14,0", 0), no("h,13,0", 8), ok("s,0", 3),
+    ok("h,15,0", 2), ok("h,15,1", 2), ok("o,0,12,t,1", 1),
+]
+
+
 # ---------------------------------------------------------------- writing
 
 def sheet_of(cases, last_ended: bool = True) -> bytes:
@@ -348,13 +376,17 @@ def four_call_sheets():
     }
 
 
+def carousel_sheets():
+    return {"carousel": of(CAROUSEL)}
+
+
 def ten_call_sheets():
     return {"change": of(CHANGE), "epochs": of(epochs()), "bag": of(BAG)}
 
 
-def check(name: str, sheet: bytes, stated: bytes, letters: str) -> None:
+def check(name: str, sheet: bytes, stated: bytes, letters: str, service: str) -> None:
     """Stop unless the model says what is put down here."""
-    rows, played = model.rows_of(sheet), model.play(sheet, "roll", letters)
+    rows, played = model.rows_of(sheet), model.play(sheet, service, letters)
     if played == stated:
         return
     for number, (was, should) in enumerate(zip(played.split(CRLF), stated.split(CRLF))):
@@ -367,12 +399,15 @@ def main() -> None:
     parser = argparse.ArgumentParser(description="Write run sheets and their lines.")
     parser.add_argument("folder", type=Path)
     parser.add_argument("--ten", action="store_true", help="the sheets that need all ten calls")
+    parser.add_argument("--carousel", action="store_true", help="the carousel program's sheets")
     given = parser.parse_args()
-    sheets, letters = four_call_sheets(), "fosh"
+    sheets, letters, service = four_call_sheets(), "fosh", "roll"
+    if given.carousel:
+        sheets, service = carousel_sheets(), "carousel"
     if given.ten:
         sheets, letters = ten_call_sheets(), model.LETTERS
     for name, (sheet, lines) in sheets.items():
-        check(name, sheet, lines, letters)
+        check(name, sheet, lines, letters, service)
     given.folder.mkdir(parents=True, exist_ok=True)
     for name, (sheet, lines) in sheets.items():
         (given.folder / f"{name}.sheet").write_bytes(sheet)

@@ -31,7 +31,7 @@ pub fn long_enough<S: Service>(tables: &Tables<S>) -> bool
 
 impl Floor {
     // Why the controller cannot be called at all: not started, no such controller, or stopped.
-    pub fn absence(&self, controller: u32) -> Option<Fault>
+    pub(super) fn absence(&self, controller: u32) -> Option<Fault>
         ensures answer { λ r. ⌜ r ≡ absent (now (self .entry) .started) (now (self .entry) .controllers) controller ⌝ }
         ensures within { λ r. ⌜ (r ≡ None → (controller < 8) × Sound (getD (now (self .entry) .controllers) controller no-controller)) ⌝ }
     {
@@ -48,14 +48,14 @@ impl Floor {
     }
 
     // Whether the bag has space for what is sent to these.
-    pub fn has_space(&self, to: u8) -> bool
+    pub(super) fn has_space(&self, to: u8) -> bool
         ensures { λ r. ⌜ r ≡ space (now (self .entry) .sent) to ⌝ }
     {
         to == 0 || self.sent < MOST_SENT
     }
 
     // Puts an envelope that has an addressee into the bag.
-    pub fn send<S: Service>(&mut self, tables: &mut Tables<S>, envelope: Envelope<S::Update>)
+    pub(super) fn send<S: Service>(&mut self, tables: &mut Tables<S>, envelope: Envelope<S::Update>)
         requires { ⌜ space (now self .sent) (envelope .to) ≡ true ⌝ ∗ ⌜ 1024 ≤ vec-len (now tables .envelopes) ⌝ }
         ensures { λ _. ⌜ seen (now (self .exit)) (now (tables .exit)) ≡ sending (meant-by S·Service) (seen (now (self .entry)) (now (tables .entry))) envelope ⌝ }
     {

@@ -1,0 +1,12 @@
+pub mod AcceptKeeps
+pub mod BeginKeeps
+pub mod DeliverKeeps
+pub mod Follows
+pub mod Inv
+pub mod JoinKeeps
+pub mod Lists
+pub mod OpenKeeps
+pub mod OrderKeeps
+pub mod PromisedKeeps
+pub mod StoreKeeps
+pub mod View

@@ -1,0 +1,3 @@
+mod copies;
+pub mod fault;
+pub mod table;
