@@ -25,7 +25,7 @@ pub const MOST_ENTRIES: u32 = 64;
 pub const MOST_SENT: u32 = 1024;
 
 // Whether the list of controller c, which has `len` entries, holds the serial.
-pub fn holds_at<U: Copy>(entries: &[Entry<U>], c: usize, len: usize, serial: u32) -> bool
+pub(crate) fn holds_at<U: Copy>(entries: &[Entry<U>], c: usize, len: usize, serial: u32) -> bool
     requires { ⌜ c < 8 ⌝ ∗ ⌜ len ≤ 64 ⌝ ∗ ⌜ 512 ≤ length (now entries) ⌝ }
     ensures { λ r. ⌜ r ≡ holds (stretch-of (now (entries .entry)) c len) serial ⌝ }
 {
@@ -55,7 +55,7 @@ fn append_at<U: Copy>(entries: &mut [Entry<U>], c: usize, len: usize, entry: Ent
 }
 
 // Appends to the list of controller c, which has `len` entries and room.
-pub fn append_entry<S: Service>(
+pub(crate) fn append_entry<S: Service>(
     tables: &mut Tables<S>,
     c: usize,
     len: usize,
@@ -80,7 +80,7 @@ fn run_entries<S: Service>(state: S, list: &[Entry<S::Update>]) -> S
 }
 
 // The same of the places from `from` to `to` of controller c's list.
-pub fn run_part<S: Service>(
+pub(crate) fn run_part<S: Service>(
     state: S,
     entries: &[Entry<S::Update>],
     c: usize,

@@ -10,3 +10,4 @@ pub mod OrderKeeps
 pub mod PromisedKeeps
 pub mod StoreKeeps
 pub mod View
+pub mod Later

@@ -18,7 +18,7 @@ use machine::tables::Tables;
 use service::Service;
 
 // Whether the tables are long enough.
-pub fn long_enough<S: Service>(tables: &Tables<S>) -> bool
+pub(crate) fn long_enough<S: Service>(tables: &Tables<S>) -> bool
     ensures answer { λ r. ⌜ r ≡ long (vec-len (now (tables .entry) .entries)) (vec-len (now (tables .entry) .openings)) (vec-len (now (tables .entry) .committed)) (vec-len (now (tables .entry) .speculative)) (vec-len (now (tables .entry) .envelopes)) ⌝ }
     ensures rows { λ r. ⌜ (r ≡ true → (512 ≤ vec-len (now (tables .entry) .entries)) × (2048 ≤ vec-len (now (tables .entry) .openings)) × (8 ≤ vec-len (now (tables .entry) .committed)) × (8 ≤ vec-len (now (tables .entry) .speculative)) × (1024 ≤ vec-len (now (tables .entry) .envelopes))) ⌝ }
 {

@@ -14,7 +14,7 @@ use machine::fault::Fault;
 
 // The first refusal of an envelope that is handed to controller c, which is `me`, with `sent`
 // envelopes in the bag.
-pub fn first_refusal<U: Copy>(
+pub(crate) fn first_refusal<U: Copy>(
     sent: u32,
     c: u32,
     me: &Controller,
