@@ -1,3 +1,4 @@
 pub mod Lawfuls
+pub mod Orders
 pub mod States
 pub mod Stretches

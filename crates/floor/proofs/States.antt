@@ -14,6 +14,8 @@ abbrev pub with-entries : {X U : Type 0} → State X U → List (Entry U) → St
 with-entries t es = record {
   started = t .started;
   controllers = t .controllers;
+  seats = t .seats;
+  lengths = t .lengths;
   sent = t .sent;
   entries = es;
   openings = t .openings;
@@ -23,11 +25,13 @@ with-entries t es = record {
 }
 
 -- states with equal parts are equal
-pub same-state : {X U : Type 0} (a b : State X U) → a .started ≡ b .started → a .controllers ≡ b .controllers → a .sent ≡ b .sent → a .entries ≡ b .entries
+pub same-state : {X U : Type 0} (a b : State X U) → a .started ≡ b .started → a .controllers ≡ b .controllers → a .seats ≡ b .seats → a .lengths ≡ b .lengths → a .sent ≡ b .sent → a .entries ≡ b .entries
     → a .openings ≡ b .openings → a .committed ≡ b .committed → a .speculative ≡ b .speculative → a .envelopes ≡ b .envelopes → a ≡ b
-same-state a b p q r s t u v w = λ i. record {
+same-state a b p q x y r s t u v w = λ i. record {
   started = p i;
   controllers = q i;
+  seats = x i;
+  lengths = y i;
   sent = r i;
   entries = s i;
   openings = t i;

@@ -1,14 +1,15 @@
 ghost use mathlib.Core.Path.{_≡_};
 ghost use mathlib.Core.Bool.{Bool, cond};
-ghost use mathlib.Core.List.{List};
+ghost use mathlib.Core.List.{List, _++_};
 ghost use Prim.Native.Nat.{ℕ, _+_, _-_, _*_, _<_, _≤_};
 ghost use lib.Dec.{ltb};
-ghost use lib.ListN.{length, set};
-ghost use Rattle.std.specs.Of.Vec.{vec-len};
+ghost use lib.ListN.{length, set, drop};
+ghost use Rattle.std.specs.Of.Vec.{vec-len, vec-items};
 ghost use Rattle.service.specs.Meant.{meant-by};
 ghost use Rattle.entries.specs.Lists.{holds};
-ghost use Rattle.machine.specs.Machine.{stretch as stretch-of, part, run, put-entry};
+ghost use Rattle.machine.specs.Machine.{stretch as stretch-of, opening-of, over, part, run, put-entry, put-list, put-opening};
 ghost use Rattle.machine.specs.declared.controller.Controller.{Controller};
+ghost use Rattle.machine.specs.declared.seat.Seat.{Seat};
 ghost use Rattle.floor.specs.Seen.{laid};
 use entries::Entries;
 use entries::EntriesMut;
@@ -62,10 +63,53 @@ pub(crate) fn append_entry<S: Service>(
     entry: Entry<S::Update>,
 )
     requires { ⌜ c < 8 ⌝ ∗ ⌜ len < 64 ⌝ ∗ ⌜ 512 ≤ vec-len (now tables .entries) ⌝ }
-    ensures after { λ _. ⌜ ((b : Bool) (ks : List Controller) (n : ℕ) → laid b ks n (now (tables .exit)) ≡ put-entry (meant-by S·Service) (laid b ks n (now (tables .entry))) (c * 64 + len) entry) ⌝ }
+    ensures after { λ _. ⌜ ((b : Bool) (ks : List Controller) (ss : List Seat) (ls : List ℕ) (n : ℕ) → laid b ks ss ls n (now (tables .exit)) ≡ put-entry (meant-by S·Service) (laid b ks ss ls n (now (tables .entry))) (c * 64 + len) entry) ⌝ }
     ensures bag { λ _. ⌜ vec-len (now (tables .exit) .envelopes) ≡ vec-len (now (tables .entry) .envelopes) ⌝ }
 {
     append_at(&mut tables.entries, c, len, entry);
+}
+
+// Copies a list to the front of these rows.
+fn copy_into<U: Copy>(rows: &mut [Entry<U>], from: &[Entry<U>])
+    requires { ⌜ length (now from) ≤ length (now rows) ⌝ }
+    ensures { λ _. ⌜ now (rows .exit) ≡ now (from .entry) ++ drop (length (now (from .entry))) (now (rows .entry)) ⌝ }
+{
+    rows[..from.len()].copy_from_slice(from);
+}
+
+// Copies a list into the table's stretch of places from `at` on.
+fn copy_at<U: Copy>(table: &mut [Entry<U>], at: usize, from: &[Entry<U>])
+    requires { ⌜ length (now from) ≤ 64 ⌝ ∗ ⌜ at + 64 ≤ length (now table) ⌝ }
+    ensures { λ _. ⌜ now (table .exit) ≡ over (now (table .entry)) at (now (from .entry)) ⌝ }
+{
+    copy_into(&mut table[at..at + PLACES], from);
+}
+
+// The list of controller c, which has `len` entries, becomes the opening list of the epoch.
+pub(crate) fn keep_opening<S: Service>(tables: &mut Tables<S>, epoch: u32, c: usize, len: usize)
+    requires place { ⌜ c < 8 ⌝ ∗ ⌜ 1 ≤ epoch ⌝ ∗ ⌜ epoch ≤ 32 ⌝ ∗ ⌜ len ≤ 64 ⌝ }
+    requires rows { ⌜ 512 ≤ vec-len (now tables .entries) ⌝ ∗ ⌜ 2048 ≤ vec-len (now tables .openings) ⌝ }
+    ensures after { λ _. ⌜ ((b : Bool) (ks : List Controller) (ss : List Seat) (ls : List ℕ) (n : ℕ) → laid b ks ss (set ls (epoch - 1) len) n (now (tables .exit)) ≡ put-opening (meant-by S·Service) (laid b ks ss ls n (now (tables .entry))) epoch (stretch-of (vec-items (now (tables .entry) .entries)) c len)) ⌝ }
+    ensures bag { λ _. ⌜ vec-len (now (tables .exit) .envelopes) ≡ vec-len (now (tables .entry) .envelopes) ⌝ }
+{
+    let from = c * PLACES;
+    let at = (epoch as usize - 1) * PLACES;
+    copy_at(&mut tables.openings, at, &tables.entries[from..from + len]);
+}
+
+// The opening list of the epoch, which has `len` entries, becomes the list of controller c.
+pub(crate) fn take_opening<S: Service>(tables: &mut Tables<S>, c: usize, epoch: u32, len: usize)
+    requires place { ⌜ c < 8 ⌝ ∗ ⌜ 1 ≤ epoch ⌝ ∗ ⌜ epoch ≤ 32 ⌝ ∗ ⌜ len ≤ 64 ⌝ }
+    requires rows { ⌜ 512 ≤ vec-len (now tables .entries) ⌝ ∗ ⌜ 2048 ≤ vec-len (now tables .openings) ⌝ }
+    ensures after { λ _. ⌜ ((b : Bool) (ks : List Controller) (ss : List Seat) (ls : List ℕ) (n : ℕ) → laid b ks ss ls n (now (tables .exit)) ≡ put-list (meant-by S·Service) (laid b ks ss ls n (now (tables .entry))) c (opening-of (vec-items (now (tables .entry) .openings)) epoch len)) ⌝ }
+    ensures bag { λ _. ⌜ vec-len (now (tables .exit) .envelopes) ≡ vec-len (now (tables .entry) .envelopes) ⌝ }
+{
+    let from = (epoch as usize - 1) * PLACES;
+    copy_at(
+        &mut tables.entries,
+        c * PLACES,
+        &tables.openings[from..from + len],
+    );
 }
 
 // The state that a list of entries makes of a state.

@@ -26,20 +26,27 @@ use Rattle.machine.specs.declared.controller.Role.{Role}
 use Rattle.machine.specs.declared.controller.Role.the-variants.{Fresh, Follower, Leader}
 use Rattle.machine.specs.declared.envelope.Envelope.{Envelope}
 use Rattle.machine.specs.declared.envelope.Message.{Message}
-use Rattle.machine.specs.declared.envelope.Message.the-variants.{Commit, Accept, Held}
+use Rattle.machine.specs.declared.envelope.Message.the-variants.{Commit, Accept, Held, Probe, Answer, NewConfig, NewState}
 use Rattle.machine.specs.declared.fault.Fault.{Fault}
 use Rattle.machine.specs.declared.fault.Fault.the-variants.{ShortTables, NotStarted, Started, OutOfRange, Unlawful, Stopped, NotAddressed, WrongState, NothingNew, NoGround, SerialTaken, ListFull, BagFull}
+use Rattle.machine.specs.declared.seat.Seat.{Seat}
+use Rattle.machine.specs.declared.seat.Seat.the-variants.{Idle, Probing}
 use Rattle.machine.specs.Faults.{of-service, of-config}
-use Rattle.machine.specs.Rows.{no-controller, follows, takes-part, leads-other, told-by, more, least, reach, longer, delivered-to, with-role, settled-at, told-to, all-joined}
+use Rattle.machine.specs.Rows.{no-controller, follows, takes-part, leads-other, told-by, more, least, reach, longer, delivered-to, with-role, settled-at, told-to, all-joined, promised, leading, following, stopped}
 
 -- A floor with its tables. X is the service's rows, U its updates.
 pub record State (X U : Type 0) : Type 0 where
   pub started : Bool
   pub controllers : List Controller
+  -- the four change seats
+  pub seats : List Seat
+  -- the length of the list with which epoch e was opened stands at e - 1
+  pub lengths : List ℕ
   -- how many envelopes are sent
   pub sent : ℕ
   -- the list of controller c lies in the 64 places from c * 64 on
   pub entries : List (Entry U)
+  -- the list with which epoch e was opened lies in the 64 places from (e - 1) * 64 on
   pub openings : List (Entry U)
   pub committed : List X
   pub speculative : List X
@@ -75,22 +82,34 @@ abbrev pub in-range : {U : Type 0} → ℕ → Message U → Bool
 in-range sender (Commit e n) = true
 in-range sender (Accept e k x) = ltb sender 8
 in-range sender (Held e h f) = true
+in-range sender (Probe n e i) = true
+in-range sender (Answer y n e f i) = ltb f 8 && ltb i 4
+in-range sender (NewConfig e m) = leb 1 e && leb e 32
+in-range sender (NewState e) = ltb sender 8 && (leb 1 e && leb e 32)
 
--- 7, 8, 9, 11, 13 for an envelope handed to the controller c, which is k: the first refusal
-abbrev pub untaken : {U : Type 0} → ℕ → ℕ → Controller → Message U → Option Fault
-untaken sent c k (Commit e n) =
+-- 6, 7, 8, 9, 11, 13 for an envelope handed to the controller c, which is k: the first refusal
+abbrev pub untaken : {U : Type 0} → ℕ → List ℕ → ℕ → Controller → Message U → Option Fault
+untaken sent ls c k (Commit e n) =
     cond (takes-part (k .role) && eqb (k .epoch) e) (cond (ltb (k .delivered) n) (cond (leb n (k .length)) None (Some NoGround)) (Some NothingNew)) (Some WrongState)
-untaken sent c k (Accept e p x) =
+untaken sent ls c k (Accept e p x) =
     cond (follows (k .role) && eqb (k .epoch) e)
     (cond (leb (k .length) p) (cond (eqb p (k .length)) (cond (ltb (k .length) 64) (cond (ltb sent 1024) None (Some BagFull)) (Some ListFull)) (Some NoGround)) (Some NothingNew))
     (Some WrongState)
-untaken sent c k (Held e h f) =
+untaken sent ls c k (Held e h f) =
     cond (leads-other (k .role) c f && eqb (k .epoch) e) (cond (more (told-by (k .role) f) h) (cond (leb h (k .length)) None (Some NoGround)) (Some NothingNew)) (Some WrongState)
+untaken sent ls c k (Probe n e i) = cond (leb (k .promise) n) (cond (ltb sent 1024) None (Some BagFull)) (Some WrongState)
+untaken sent ls c k (Answer y n e f i) = Some NotAddressed
+untaken sent ls c k (NewConfig e m) =
+    cond (eqb (k .promise) e && ltb (k .epoch) e) (cond (space sent (without m c)) None (Some BagFull)) (Some WrongState)
+untaken sent ls c k (NewState e) =
+    cond (leb (k .promise) e && ltb (k .epoch) e)
+    (cond (leb (k .delivered) (getD ls (e - 1) 0)) (cond (ltb sent 1024) None (Some BagFull)) (Some NoGround))
+    (Some WrongState)
 
 -- 3, 5, 6 and what follows, for an envelope handed to c
-abbrev pub unhanded : {U : Type 0} → ℕ → ℕ → Controller → Envelope U → Option Fault
-unhanded sent c k e =
-    cond (in-range (e .sender) (e .message)) (cond (k .running) (cond (member (e .to) c) (untaken sent c k (e .message)) (Some NotAddressed)) (Some Stopped)) (Some OutOfRange)
+abbrev pub unhanded : {U : Type 0} → ℕ → List ℕ → ℕ → Controller → Envelope U → Option Fault
+unhanded sent ls c k e =
+    cond (in-range (e .sender) (e .message)) (cond (k .running) (cond (member (e .to) c) (untaken sent ls c k (e .message)) (Some NotAddressed)) (Some Stopped)) (Some OutOfRange)
 
 -- what stands for an envelope that is not there
 abbrev pub no-envelope : {U : Type 0} → Envelope U
@@ -99,6 +118,14 @@ no-envelope = record { sender = 0; to = 0; message = Commit 0 0 }
 -- the list of controller c that has n entries, and the n entries from its place d on
 abbrev pub stretch : {U : Type 0} → List (Entry U) → ℕ → ℕ → List (Entry U)
 stretch es c n = take n (drop (c * 64) es)
+
+-- the list with which epoch e was opened, of n entries
+abbrev pub opening-of : {U : Type 0} → List (Entry U) → ℕ → ℕ → List (Entry U)
+opening-of es e n = take n (drop ((e - 1) * 64) es)
+
+-- a table with xs in the place of what stood from i on
+unfoldable pub over : {X : Type 0} → List X → ℕ → List X → List X
+over es i xs = take i es ++ (xs ++ drop (i + length xs) es)
 
 abbrev pub part : {U : Type 0} → List (Entry U) → ℕ → ℕ → ℕ → List (Entry U)
 part es c d n = take n (drop (c * 64 + d) es)
@@ -125,6 +152,8 @@ module _ (M : Meant) where
   put-controller t c k = record {
     started = t .started;
     controllers = set (t .controllers) c k;
+    seats = t .seats;
+    lengths = t .lengths;
     sent = t .sent;
     entries = t .entries;
     openings = t .openings;
@@ -137,6 +166,8 @@ module _ (M : Meant) where
   put-entry t i x = record {
     started = t .started;
     controllers = t .controllers;
+    seats = t .seats;
+    lengths = t .lengths;
     sent = t .sent;
     entries = set (t .entries) i x;
     openings = t .openings;
@@ -149,6 +180,8 @@ module _ (M : Meant) where
   put-committed t c x = record {
     started = t .started;
     controllers = t .controllers;
+    seats = t .seats;
+    lengths = t .lengths;
     sent = t .sent;
     entries = t .entries;
     openings = t .openings;
@@ -161,6 +194,8 @@ module _ (M : Meant) where
   put-speculative t c x = record {
     started = t .started;
     controllers = t .controllers;
+    seats = t .seats;
+    lengths = t .lengths;
     sent = t .sent;
     entries = t .entries;
     openings = t .openings;
@@ -169,18 +204,67 @@ module _ (M : Meant) where
     envelopes = t .envelopes;
   }
 
-  -- an envelope put into the bag, where it has an addressee
-  abbrev pub send : Here → Envelope (M .Update) → Here
-  send t e = record {
+  abbrev pub put-seat : Here → ℕ → Seat → Here
+  put-seat t i s = record {
     started = t .started;
     controllers = t .controllers;
-    sent = cond (eqb (e .to) 0) (t .sent) (t .sent + 1);
+    seats = set (t .seats) i s;
+    lengths = t .lengths;
+    sent = t .sent;
     entries = t .entries;
     openings = t .openings;
     committed = t .committed;
     speculative = t .speculative;
-    envelopes = cond (eqb (e .to) 0) (t .envelopes) (set (t .envelopes) (t .sent) e);
+    envelopes = t .envelopes;
   }
+
+  -- the list of controller c taken over from the opening list of e, and the other way round
+  abbrev pub put-list : Here → ℕ → List (Entry (M .Update)) → Here
+  put-list t c xs = record {
+    started = t .started;
+    controllers = t .controllers;
+    seats = t .seats;
+    lengths = t .lengths;
+    sent = t .sent;
+    entries = over (t .entries) (c * 64) xs;
+    openings = t .openings;
+    committed = t .committed;
+    speculative = t .speculative;
+    envelopes = t .envelopes;
+  }
+
+  abbrev pub put-opening : Here → ℕ → List (Entry (M .Update)) → Here
+  put-opening t e xs = record {
+    started = t .started;
+    controllers = t .controllers;
+    seats = t .seats;
+    lengths = set (t .lengths) (e - 1) (length xs);
+    sent = t .sent;
+    entries = t .entries;
+    openings = over (t .openings) ((e - 1) * 64) xs;
+    committed = t .committed;
+    speculative = t .speculative;
+    envelopes = t .envelopes;
+  }
+
+  -- an envelope put into the bag
+  abbrev pub post : Here → Envelope (M .Update) → Here
+  post t e = record {
+    started = t .started;
+    controllers = t .controllers;
+    seats = t .seats;
+    lengths = t .lengths;
+    sent = t .sent + 1;
+    entries = t .entries;
+    openings = t .openings;
+    committed = t .committed;
+    speculative = t .speculative;
+    envelopes = set (t .envelopes) (t .sent) e;
+  }
+
+  -- the same, where it has an addressee
+  abbrev pub send : Here → Envelope (M .Update) → Here
+  send t e = cond (eqb (e .to) 0) t (post t e)
 
   -- a refusal changes nothing
   abbrev pub refuse : Here → Fault → After
@@ -254,13 +338,36 @@ module _ (M : Meant) where
   abbrev pub told : Here → ℕ → Controller → ℕ → ℕ → Here
   told t c k f h = put-controller t c (with-role k (told-to (k .role) f h))
 
+  abbrev pub probed : Here → ℕ → Controller → ℕ → ℕ → ℕ → Here
+  probed t c k n e i =
+      post (put-controller t c (promised k n)) (record { sender = c; to = 0; message = Answer (leb e (k .epoch)) n e c i })
+
+  -- c becomes leader of epoch e: its list is kept as the opening list, and its speculative state is its committed state
+  -- with all entries held and not delivered applied
+  abbrev pub opened-by : Here → ℕ → Controller → ℕ → ℕ → Here
+  opened-by t c k e m =
+      send
+      (put-speculative (put-opening (put-controller t c (leading k e m)) e (stretch (t .entries) c (k .length))) c
+      (run (getD (t .committed) c (M .opening)) (part (t .entries) c (k .delivered) (k .length - k .delivered))))
+      (record { sender = c; to = without m c; message = NewState e })
+
+  -- c becomes follower in epoch e with the n entries of its opening list
+  abbrev pub joined-by : Here → ℕ → Controller → ℕ → ℕ → ℕ → Here
+  joined-by t c k e sender n =
+      send (put-list (put-controller t c (following k e n)) c (opening-of (t .openings) e n))
+      (record { sender = c; to = only sender; message = Held e n c })
+
   abbrev pub taken : Here → ℕ → Controller → ℕ → Message (M .Update) → After
   taken t c k sender (Commit e n) = delivered t c k (reach n (k .delivered))
   taken t c k sender (Accept e p x) = grant 0 (accepted t c k sender e p x)
   taken t c k sender (Held e h f) = grant 0 (told t c k f h)
+  taken t c k sender (Probe n e i) = grant 0 (probed t c k n e i)
+  taken t c k sender (Answer y n e f i) = refuse t NotAddressed
+  taken t c k sender (NewConfig e m) = grant 0 (opened-by t c k e m)
+  taken t c k sender (NewState e) = grant 0 (joined-by t c k e sender (getD (t .lengths) (e - 1) 0))
 
   abbrev pub handed-over : Here → ℕ → Controller → Envelope (M .Update) → After
-  handed-over t c k e = unless t (unhanded (t .sent) c k e) (taken t c k (e .sender) (e .message))
+  handed-over t c k e = unless t (unhanded (t .sent) (t .lengths) c k e) (taken t c k (e .sender) (e .message))
 
   abbrev pub handed : Here → ℕ → ℕ → After
   handed t i c =
@@ -273,6 +380,8 @@ module _ (M : Meant) where
   opened t k = record {
     started = true;
     controllers = all-joined (k .members) (k .leader) (t .controllers);
+    seats = t .seats;
+    lengths = t .lengths;
     sent = t .sent;
     entries = t .entries;
     openings = t .openings;

@@ -3,7 +3,7 @@ use Prim.Native.Nat.{ℕ, zero, suc, _+_, min}
 use mathlib.Core.Bool.{Bool, true, false, cond}
 use mathlib.Core.List.{List, map}
 use lib.Dec.{eqb, ltb}
-use lib.ListN.{getD, set}
+use lib.ListN.{getD, set, replicate}
 use Rattle.std.specs.Iters.{counting}
 use Rattle.std.specs.declared.option.Option.{Option}
 use Rattle.std.specs.declared.option.Option.the-variants.{Some, None}
@@ -101,3 +101,19 @@ joined m l c k = cond (member m c) (record { running = k .running; role = first-
 -- what the start makes of the controllers
 unfoldable pub all-joined : ℕ → ℕ → List Controller → List Controller
 all-joined m l ks = map (λ c. joined m l c (getD ks c no-controller)) (counting 0 8)
+
+-- a controller that promised, that leads epoch e with members m, and that follows in epoch e with n entries
+abbrev pub promised : Controller → ℕ → Controller
+promised k n = record { running = k .running; role = k .role; epoch = k .epoch; promise = n; length = k .length; delivered = k .delivered }
+
+abbrev pub new-lead : ℕ → Lead
+new-lead m = record { members = m; told = replicate 8 None; settled = 0 }
+
+abbrev pub leading : Controller → ℕ → ℕ → Controller
+leading k e m = record { running = k .running; role = Leader (new-lead m); epoch = e; promise = k .promise; length = k .length; delivered = k .delivered }
+
+abbrev pub following : Controller → ℕ → ℕ → Controller
+following k e n = record { running = k .running; role = Follower; epoch = e; promise = e; length = n; delivered = k .delivered }
+
+abbrev pub stopped : Controller → Controller
+stopped k = record { running = false; role = k .role; epoch = k .epoch; promise = k .promise; length = k .length; delivered = k .delivered }

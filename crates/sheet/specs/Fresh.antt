@@ -9,6 +9,7 @@ use Rattle.service.specs.Meant.{Meant}
 use Rattle.config.specs.Configured.{Configured}
 use Rattle.machine.specs.Blank.{no-entry, blank}
 use Rattle.machine.specs.Machine.{no-envelope}
+use Rattle.machine.specs.declared.seat.Seat.the-variants.{Idle}
 use Rattle.floor.specs.New.{fresh}
 use Rattle.sheet.specs.declared.output.Output.{Output}
 use Rattle.sheet.specs.Verbs.{Verbs}
@@ -19,6 +20,8 @@ fresh-world M u s = record {
   floor = record {
     started = false;
     controllers = replicate 8 fresh;
+    seats = replicate 4 Idle;
+    lengths = replicate 32 0;
     sent = 0;
     entries = blank 512 (no-entry u);
     openings = blank 2048 (no-entry u);

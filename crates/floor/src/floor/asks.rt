@@ -6,7 +6,7 @@ ghost use Rattle.std.specs.Of.Vec.{vec-len};
 ghost use Rattle.std.specs.declared.option.Option.the-variants.{None};
 ghost use Rattle.service.specs.Meant.{meant-by};
 ghost use Rattle.machine.specs.Rows.{no-controller};
-ghost use Rattle.machine.specs.Machine.{long, absent, space, send as sending};
+ghost use Rattle.machine.specs.Machine.{long, absent, space, post as posting, send as sending};
 ghost use Rattle.floor.specs.Seen.{seen};
 ghost use Rattle.floor.specs.Lawful.{Sound};
 use super::Floor;
@@ -29,6 +29,13 @@ pub(crate) fn long_enough<S: Service>(tables: &Tables<S>) -> bool
         && tables.envelopes.len() >= 1024
 }
 
+// Whether a bag with `sent` envelopes has space for what is sent to these.
+pub(crate) fn has_space(sent: u32, to: u8) -> bool
+    ensures { λ r. ⌜ r ≡ space sent to ⌝ }
+{
+    to == 0 || sent < MOST_SENT
+}
+
 impl Floor {
     // Why the controller cannot be called at all: not started, no such controller, or stopped.
     pub(super) fn absence(&self, controller: u32) -> Option<Fault>
@@ -47,21 +54,22 @@ impl Floor {
         None
     }
 
-    // Whether the bag has space for what is sent to these.
-    pub(super) fn has_space(&self, to: u8) -> bool
-        ensures { λ r. ⌜ r ≡ space (now (self .entry) .sent) to ⌝ }
+    // Puts an envelope into the bag.
+    pub(super) fn post<S: Service>(&mut self, tables: &mut Tables<S>, envelope: Envelope<S::Update>)
+        requires { ⌜ now self .sent < 1024 ⌝ ∗ ⌜ 1024 ≤ vec-len (now tables .envelopes) ⌝ }
+        ensures { λ _. ⌜ seen (now (self .exit)) (now (tables .exit)) ≡ posting (meant-by S·Service) (seen (now (self .entry)) (now (tables .entry))) envelope ⌝ }
     {
-        to == 0 || self.sent < MOST_SENT
+        tables.envelopes[self.sent as usize] = envelope;
+        self.sent += 1;
     }
 
-    // Puts an envelope that has an addressee into the bag.
+    // The same, where it has an addressee.
     pub(super) fn send<S: Service>(&mut self, tables: &mut Tables<S>, envelope: Envelope<S::Update>)
         requires { ⌜ space (now self .sent) (envelope .to) ≡ true ⌝ ∗ ⌜ 1024 ≤ vec-len (now tables .envelopes) ⌝ }
         ensures { λ _. ⌜ seen (now (self .exit)) (now (tables .exit)) ≡ sending (meant-by S·Service) (seen (now (self .entry)) (now (tables .entry))) envelope ⌝ }
     {
         if envelope.to != 0 {
-            tables.envelopes[self.sent as usize] = envelope;
-            self.sent += 1;
+            self.post(tables, envelope);
         }
     }
 }

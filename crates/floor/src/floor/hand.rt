@@ -5,8 +5,8 @@ ghost use Rattle.std.specs.Of.Vec.{vec-len};
 ghost use Rattle.std.specs.declared.result.Result.the-variants.{Ok};
 ghost use Rattle.service.specs.Meant.{meant-by};
 ghost use Rattle.machine.specs.Rows.{no-controller, reach, with-role, told-to};
-ghost use Rattle.machine.specs.Machine.{handed as handed-to, delivered, accepted};
-ghost use Rattle.floor.specs.Seen.{seen, Accepting};
+ghost use Rattle.machine.specs.Machine.{handed as handed-to, taken, delivered, accepted};
+ghost use Rattle.floor.specs.Seen.{seen, Accepting, Taking};
 use super::Floor;
 use super::asks::long_enough;
 use super::refusal::first_refusal;
@@ -60,14 +60,23 @@ impl Floor {
         let c = controller as usize;
         let me = self.controllers[c];
         let handed = tables.envelopes[envelope as usize];
-        if let Some(fault) = first_refusal(self.sent, controller, &me, &handed) {
+        if let Some(fault) = first_refusal(self.sent, &self.lengths, controller, &me, &handed) {
             return Err(fault);
         }
-        let Envelope {
-            sender,
-            message,
-            ..
-        } = handed;
+        self.take(tables, controller, handed.sender, handed.message)
+    }
+
+    // Past every question: what the message makes of the controller.
+    fn take<S: Service>(
+        &mut self,
+        tables: &mut Tables<S>,
+        controller: u32,
+        sender: u32,
+        message: Message<S::Update>,
+    ) -> Result<u32, Fault>
+        requires { ⌜ Taking (now self) (now tables) controller sender message ⌝ }
+        ensures { λ r. ⌜ record { answer = r; after = seen (now (self .exit)) (now (tables .exit)) } ≡ taken (meant-by S·Service) (seen (now (self .entry)) (now (tables .entry))) controller (getD (now (self .entry) .controllers) controller no-controller) sender message ⌝ }
+    {
         match message {
             Message::Commit { count, .. } => Ok(self.take_commit(tables, controller, count)),
             Message::Accept { epoch, entry, .. } => {
@@ -80,6 +89,19 @@ impl Floor {
                 ..
             } => {
                 self.take_held(controller, follower, length);
+                Ok(0)
+            }
+            Message::Probe { new, epoch, seat } => {
+                self.take_probe(tables, controller, new, epoch, seat);
+                Ok(0)
+            }
+            Message::Answer { .. } => Err(Fault::NotAddressed),
+            Message::NewConfig { epoch, members } => {
+                self.take_newconfig(tables, controller, epoch, members);
+                Ok(0)
+            }
+            Message::NewState { epoch } => {
+                self.take_newstate(tables, controller, sender, epoch);
                 Ok(0)
             }
         }
@@ -146,6 +168,8 @@ impl Floor {
     fn take_held(&mut self, controller: u32, follower: u32, length: u32)
         requires { ⌜ controller < 8 ⌝ ∗ ⌜ follower < 8 ⌝ }
         ensures started { λ _. ⌜ now (self .exit) .started ≡ now (self .entry) .started ⌝ }
+        ensures seats { λ _. ⌜ now (self .exit) .seats .at ≡ now (self .entry) .seats .at ⌝ }
+        ensures lengths { λ _. ⌜ now (self .exit) .lengths ≡ now (self .entry) .lengths ⌝ }
         ensures sent { λ _. ⌜ now (self .exit) .sent ≡ now (self .entry) .sent ⌝ }
         ensures controllers { λ _. ⌜ now (self .exit) .controllers ≡ set (now (self .entry) .controllers) controller (with-role (getD (now (self .entry) .controllers) controller no-controller) (told-to (getD (now (self .entry) .controllers) controller no-controller .role) follower length)) ⌝ }
     {

@@ -7,6 +7,7 @@ ghost use Rattle.machine.specs.Rows.{no-controller};
 ghost use Rattle.machine.specs.Machine.{ordered, entered};
 ghost use Rattle.floor.specs.Seen.{seen, Entering};
 use super::Floor;
+use super::asks::has_space;
 use super::asks::long_enough;
 use crate::stretch::PLACES;
 use crate::stretch::append_entry;
@@ -55,7 +56,7 @@ impl Floor {
         let state = tables.speculative[c];
         let worked = state.work(command)?;
         let to = without(lead.members, controller);
-        if !self.has_space(to) {
+        if !has_space(self.sent, to) {
             return Err(Fault::BagFull);
         }
         let entry = Entry {

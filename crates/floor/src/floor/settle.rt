@@ -4,6 +4,7 @@ ghost use Rattle.service.specs.Meant.{meant-by};
 ghost use Rattle.machine.specs.Machine.{settled};
 ghost use Rattle.floor.specs.Seen.{seen};
 use super::Floor;
+use super::asks::has_space;
 use super::asks::long_enough;
 use machine::controller::Lead;
 use machine::controller::Role;
@@ -40,7 +41,7 @@ impl Floor {
         if count <= lead.settled {
             return Err(Fault::NothingNew);
         }
-        if !self.has_space(lead.members) {
+        if !has_space(self.sent, lead.members) {
             return Err(Fault::BagFull);
         }
         self.controllers[c].role = Role::Leader(Lead {

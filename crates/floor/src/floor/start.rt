@@ -9,6 +9,7 @@ ghost use Rattle.machine.specs.Machine.{started-by, opened, all-first};
 ghost use Rattle.floor.specs.New.{New};
 ghost use Rattle.floor.specs.Seen.{seen};
 use super::Floor;
+use super::Seats;
 use super::asks::long_enough;
 use config::configuration::Configuration;
 use config::members::CONTROLLERS;
@@ -20,6 +21,7 @@ use machine::controller::Lead;
 use machine::controller::Role;
 use machine::convert::FaultFromConfig;
 use machine::fault::Fault;
+use machine::seat::Seat;
 use machine::tables::Tables;
 use service::Service;
 
@@ -56,7 +58,8 @@ fn reset<S: Service>(states: &mut [S])
 }
 
 impl Floor {
-    // A floor that is not started: all controllers are running and fresh, and no envelope is sent.
+    // A floor that is not started: all controllers are running and fresh, all seats idle, and no
+    // envelope is sent.
     pub fn new() -> Floor
         ensures { λ r. ⌜ New r ⌝ }
     {
@@ -71,6 +74,10 @@ impl Floor {
         Floor {
             started: false,
             controllers: [fresh; 8],
+            seats: Seats {
+                at: [Seat::Idle; 4],
+            },
+            lengths: [0; 32],
             sent: 0,
         }
     }
@@ -113,6 +120,8 @@ impl Floor {
     fn join(&mut self, row: ConfigRow)
         ensures started { λ _. ⌜ now (self .exit) .started ≡ true ⌝ }
         ensures sent { λ _. ⌜ now (self .exit) .sent ≡ now (self .entry) .sent ⌝ }
+        ensures seats { λ _. ⌜ now (self .exit) .seats .at ≡ now (self .entry) .seats .at ⌝ }
+        ensures lengths { λ _. ⌜ now (self .exit) .lengths ≡ now (self .entry) .lengths ⌝ }
         ensures controllers { λ _. ⌜ now (self .exit) .controllers ≡ all-joined (row .members) (row .leader) (now (self .entry) .controllers) ⌝ }
     {
         self.started = true;

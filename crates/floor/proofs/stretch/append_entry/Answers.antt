@@ -22,4 +22,4 @@ returns g c =
     let long : length ws ≡ vec-len v = search needs in
     let rows : ws ≡ set (vec-items v) (c .args .c * 64 + c .args .len) (c .args .entry) = simp (c .append-at .ensures .rows, full, c .deref-mut .ensures .value) in
     let items = refilled-is v ws long in
-    record { after = λ b ks n. ap (λ (es : List (Entry (g .S·Update .Denot))). with-entries (laid b ks n (c .args .tables .now)) es) (items ∙ rows); bag = search needs }
+    record { after = λ b ks ss ls n. ap (λ (es : List (Entry (g .S·Update .Denot))). with-entries (laid b ks ss ls n (c .args .tables .now)) es) (items ∙ rows); bag = search needs }

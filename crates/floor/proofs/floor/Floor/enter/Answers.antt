@@ -18,13 +18,13 @@ ghost-self g c =
     let k = getD (f .controllers) (c .args .controller) no-controller in
     let s : Sound k = f .lawful (c .args .controller) (c .pre .controller) in
     let h = kept-set (f .controllers) (c .args .controller) (longer k) (f .sized) (f .lawful) (omega arith, omega arith) in
-    (h .0, (h .1, (f .few, tt)))
+    (h .0, (h .1, (f .few, (f .seated, (f .counted, (f .short, tt))))))
 
 pub returns : need.returns
 returns g c =
     let f = c .args .self .now in
     let k = getD (f .controllers) (c .args .controller) no-controller in
-    let a = c .append-entry .ensures .after (f .started) (set (f .controllers) (c .args .controller) (longer k)) (f .sent) in
+    let a = c .append-entry .ensures .after (f .started) (set (f .controllers) (c .args .controller) (longer k)) (f .seats .at) (f .lengths) (f .sent) in
     let M = meant-by (g .S·Service) in
     let i = c .args .controller in
     let t = put-speculative M (put-entry M (put-controller M (seen f (c .args .tables .now)) i (longer k)) (i * 64 + k .length) (c .args .entry)) i (c .args .next) in

@@ -17,7 +17,7 @@ ghost-self-in-loop-c c =
     let s = f .lawful (c .loop-c .c) (c .loop-c-test .taken) in
     let e = c .joined .ensures in
     let h = kept-set (f .controllers) (c .loop-c .c) (c .joined .result) (f .sized) (f .lawful) (simp e (sound-joined (c .args .row .members) (c .args .row .leader) (c .loop-c .c) _ s)) in
-    (h .0, (h .1, (f .few, tt)))
+    (h .0, (h .1, (f .few, (f .seated, (f .counted, (f .short, tt))))))
 
 pub loop-c-again : need.loop-c-again
 loop-c-again c =
@@ -29,11 +29,13 @@ loop-c-again c =
     let one = joined (c .args .row .members) (c .args .row .leader) n in (
       i .0,
       i .1,
+      i .2,
+      i .3,
       (λ k h. elim (cases-eq k n) [
-        | inl e ↦ rw e (getD-set-same ks n x no-controller lt ∙ c .joined .ensures ∙ ap one (i .3 n (omega arith)))
-        | inr d ↦ getD-set-other ks n k x no-controller d ∙ i .2 k (omega arith)
+        | inl e ↦ rw e (getD-set-same ks n x no-controller lt ∙ c .joined .ensures ∙ ap one (i .5 n (omega arith)))
+        | inr d ↦ getD-set-other ks n k x no-controller d ∙ i .4 k (omega arith)
       ]),
-      (λ k h. getD-set-other ks n k x no-controller (λ e. omega arith) ∙ i .3 k (omega arith)),
+      (λ k h. getD-set-other ks n k x no-controller (λ e. omega arith) ∙ i .5 k (omega arith)),
     )
 
 pub returns : need.returns
@@ -44,5 +46,7 @@ returns c =
     record {
       started = i .0;
       sent = i .1;
-      controllers = fill-by-all each (c .loop-c .self .controllers) 8 no-controller (c .loop-c .self .sized) (λ k h. i .2 k (omega arith));
+      seats = i .2;
+      lengths = i .3;
+      controllers = fill-by-all each (c .loop-c .self .controllers) 8 no-controller (c .loop-c .self .sized) (λ k h. i .4 k (omega arith));
     }

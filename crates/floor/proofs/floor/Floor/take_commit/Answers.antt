@@ -11,4 +11,4 @@ ghost-self g c =
     let k = getD (f .controllers) (c .args .controller) no-controller in
     let s : Sound k = f .lawful (c .args .controller) (c .pre .0) in
     let h = kept-set (f .controllers) (c .args .controller) (delivered-to k (c .reach-reached .result)) (f .sized) (f .lawful) (omega (arith, c .reach-reached .ensures), omega arith) in
-    (h .0, (h .1, (f .few, tt)))
+    (h .0, (h .1, (f .few, (f .seated, (f .counted, (f .short, tt))))))

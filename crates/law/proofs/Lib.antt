@@ -1,0 +1,13 @@
+pub mod Seen
+pub mod Tables
+pub mod Frames
+pub mod Moves
+pub mod Goals
+pub mod Quiet
+pub mod Orders
+pub mod Hands
+pub mod Opens
+pub mod Calls
+pub mod Starts
+pub mod Lived
+pub mod Laws
