@@ -1,3 +1,5 @@
+#![tactic(auto)]
+
 ghost use Rattle.std.specs.Prelude.{◌≡◌, ℕ, List};
 ghost use Rattle.carousel.specs.Stations.{straight};
 ghost use Rattle.carousel.specs.Served.{number, mean as row_mean, worked as carousel_worked, applied as carousel_applied, next as row_next};

@@ -1,3 +1,5 @@
+#![tactic(auto)]
+
 use carousel_sheet::play;
 use program::{Trouble, ended, read_sheet, write_output};
 

@@ -1,3 +1,5 @@
+#![tactic(auto)]
+
 ghost use Rattle.std.specs.Prelude.{ℕ, IfOk};
 ghost use Rattle.carousel_sheet.specs.Meaning.{carousel as carousel_meant, verbs, new_world, known as known_letter, says as said_by};
 ghost use Rattle.sheet.specs.Fresh.{Gives};

@@ -1,3 +1,5 @@
+#![tactic(auto)]
+
 ghost use Rattle.std.specs.Prelude.{◌≡◌, ℕ, ◌+◌, ◌≤◌, length, if◌then◌else◌, nat_lt, slice_set};
 ghost use Rattle.entries.specs.Lists.{holds};
 

@@ -1,3 +1,5 @@
+#![tactic(auto)]
+
 ghost use Rattle.std.specs.Prelude.{◌≡◌, ℕ};
 ghost use Rattle.service.specs.Meant.{meant_by};
 ghost use Rattle.machine.specs.Changes.{act, act_of};

@@ -1,3 +1,5 @@
+#![tactic(auto)]
+
 use sheet::output::Output;
 use sheet::player::play::MOST_BYTES;
 use std::alloc::AllocError;

@@ -1,3 +1,5 @@
+#![tactic(auto)]
+
 ghost use Rattle.std.specs.Prelude.{◌≡◌, ℕ, ◌-◌};
 ghost use Rattle.roll.specs.Cloth.{number, worked as cloth_worked, applied as cloth_applied};
 ghost use Rattle.std.proofs.Common.{rules};

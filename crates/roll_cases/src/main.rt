@@ -1,3 +1,5 @@
+#![tactic(auto)]
+
 use program::{Trouble, ended};
 use roll_sheet::play;
 use std::fs;

@@ -1,3 +1,5 @@
+#![tactic(auto)]
+
 use program::{Trouble, ended, read_sheet, write_output};
 use roll_sheet::play;
 

@@ -1,3 +1,5 @@
+#![tactic(auto)]
+
 ghost use Rattle.std.specs.Prelude.{◌≡◌, ℕ, IfOk};
 ghost use Rattle.roll_sheet.specs.Meaning.{roll as roll_meant, verbs, new_world, known as known_letter, says as said_by};
 ghost use Rattle.sheet.specs.Fresh.{Gives};

@@ -1,3 +1,5 @@
+#![tactic(auto)]
+
 ghost use Rattle.std.specs.Prelude.{◌≡◌, ◌+◌, ◌<◌, ◌≤◌, [], ◌∷◌, ◌++◌, length, is_ok, if◌then◌else◌, Some, None, string_bytes, MatchOption};
 ghost use Rattle.rows.specs.Sheet.{rows, row_length as length_of_row, printable, fields, fields_of, is_number, value_after, said_of};
 ghost use Rattle.rows.specs.Tokens.{said, part_of};

@@ -1,3 +1,5 @@
+#![tactic(auto)]
+
 pub mod convert;
 pub mod fault;
 pub mod line;

@@ -1,3 +1,5 @@
+#![tactic(auto)]
+
 mod copies;
 pub mod fault;
 pub mod table;

@@ -7,4 +7,4 @@ use Rattle.carousel_sheet.proofs.play.Goals as goal
 
 pub returns : goal.returns
 returns c =
-    subst (λ (s : Configured). IfOk c.play-new.result (λ o. Gives carousel verbs (fresh_world carousel (Swap 0) s) c.args.sheet.now o)) c.new.ensures.meaning c.play-new.ensures
+    subst (λ (s : Configured). IfOk c.play_new.result (λ o. Gives carousel verbs (fresh_world carousel (Swap 0) s) c.args.sheet.now o)) c.new.ensures.meaning c.play_new.ensures

@@ -13,6 +13,6 @@ table_of all = record { all = all; limit = 32; is_open = true }
 
 pub returns : goal.returns
 returns c = record {
-  played = subst (λ (s : Configured). IfOk c.play-new.result (λ o. Gives roll verbs (fresh_world roll (Load 0) s) c.args.sheet.now o)) (ap table_of c.new.ensures) c.play-new.ensures;
+  played = subst (λ (s : Configured). IfOk c.play_new.result (λ o. Gives roll verbs (fresh_world roll (Load 0) s) c.args.sheet.now o)) (ap table_of c.new.ensures) c.play_new.ensures;
   worked = worked;
 }

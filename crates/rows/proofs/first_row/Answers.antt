@@ -18,18 +18,18 @@ only_row bs n h e l =
 pub returns-then-end-sheet : goal.returns-then-end-sheet
 returns-then-end-sheet c =
     let bs = c.args.sheet.now in
-    let n = c.row-length-end.result in
-    let test = c.if-is-empty.ensures in
+    let n = c.row_length-end.result in
+    let test = c.if-is_empty.ensures in
     let some : 0 < length bs = grind (arith, nat_tests) in
     let left = take_rest bs n in
-    simp left (only_row bs n some c.row-length-end.ensures.value c.if-end-sheet.true, simp length-drop (omega arith))
+    simp left (only_row bs n some c.row_length-end.ensures.value c.if-end-sheet.true, simp length-drop (omega arith))
 
 pub returns : goal.returns
 returns c =
     let bs = c.args.sheet.now in
-    let n = c.row-length-end.result in
-    let test = c.if-is-empty.ensures in
+    let n = c.row_length-end.result in
+    let test = c.if-is_empty.ensures in
     let some : 0 < length bs = grind (arith, nat_tests) in
     let left = take_rest bs (n + 2) in
-    let step : rows bs ≡ take n bs ∷ rows (drop (n + 2) bs) = let e = c.row-length-end.ensures.value in let s = rows_step bs some in cc in
+    let step : rows bs ≡ take n bs ∷ rows (drop (n + 2) bs) = let e = c.row_length-end.ensures.value in let s = rows_step bs some in cc in
     simp (left, sub-zero) (step, simp length-drop (omega arith))

@@ -9,8 +9,8 @@ step : (xs : List ℕ) (i : ℕ) → i < length xs
     → printable (drop i xs) ≡ cond (leb 33 (get_or xs i 0)) (cond (leb (get_or xs i 0) 126) (printable (drop (i + 1) xs)) false) false
 step xs i h = at_drop_more printable xs i 0 h
 
-pub returns-then-b-lt-FIRST-PRINTABLE : goal.returns-then-b-lt-FIRST-PRINTABLE
-returns-then-b-lt-FIRST-PRINTABLE c = let s = step c.args.row.now c.loop-b.b-index c.loop-b-test.true in grind (arith, nat_tests)
+pub returns-then-b-lt-FIRST_PRINTABLE : goal.returns-then-b-lt-FIRST_PRINTABLE
+returns-then-b-lt-FIRST_PRINTABLE c = let s = step c.args.row.now c.loop-b.b-index c.loop-b-test.true in grind (arith, nat_tests)
 
 pub loop-b-preserved : goal.loop-b-preserved
 loop-b-preserved c = let s = step c.args.row.now c.loop-b.b-index c.loop-b-test.true in grind (arith, nat_tests)

@@ -19,13 +19,13 @@ larger n d i h l = rw (add-one, pow-suc) (omega arith)
 room : (n i k : ℕ) → n < 10 ^ i → i < k → k ≤ 9 → n < 100000000
 room n i k h l m = let e : i ≤ 8 = omega arith in omega (arith, pow-le-pow_right {n = 10} (omega arith) e)
 
-pub overflow-mul-value : goal.overflow-mul-value
-overflow-mul-value c =
+pub overflow_mul-value : goal.overflow_mul-value
+overflow_mul-value c =
     let r = room c.loop-b.value c.loop-b.b-index (length c.args.part.now) c.loop-b.invariant.2 c.loop-b-test.true (omega arith) in
     omega arith
 
-pub overflow-add-value : goal.overflow-add-value
-overflow-add-value c =
+pub overflow_add-value : goal.overflow_add-value
+overflow_add-value c =
     let r = room c.loop-b.value c.loop-b.b-index (length c.args.part.now) c.loop-b.invariant.2 c.loop-b-test.true (omega arith) in
     omega arith
 

@@ -4,4 +4,4 @@ use Rattle.floor.proofs.stretch.copy_at.Goals as goal
 
 pub returns : goal.returns
 returns g c =
-    put_over c.args.at 64 c.args.table.now c.args.from.now c.copy-into.new.rows (omega arith) (omega arith) c.copy-into.ensures
+    put_over c.args.at 64 c.args.table.now c.args.from.now c.copy_into.new.rows (omega arith) (omega arith) c.copy_into.ensures

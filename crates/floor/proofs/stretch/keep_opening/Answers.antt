@@ -14,14 +14,14 @@ returns g c =
     let from = c.args.c * 64 in
     let at = (c.args.epoch - 1) * 64 in
     let list = stretch es c.args.c len in
-    let ws = c.copy-at.new.table in
+    let ws = c.copy_at.new.table in
     let long : length ws ≡ vec_len v = search rules in
     let all : 512 ≤ length es = search rules in
     let held : length list ≡ len = length-take-le len (drop from es) (omega (arith, length-drop from es)) in
     let count : from + len - from ≡ len = omega arith in
     let rows : ws ≡ over (vec_items v) at list =
-    c.copy-at.ensures
-    ∙ ap (λ (xs : List E). over xs at (take (from + len - from) (drop from c.deref.result.now))) c.deref-mut.ensures.value
+    c.copy_at.ensures
+    ∙ ap (λ (xs : List E). over xs at (take (from + len - from) (drop from c.deref.result.now))) c.deref_mut.ensures.value
     ∙ ap (λ (xs : List E). over (vec_items v) at (take (from + len - from) (drop from xs))) c.deref.ensures.value
     ∙ ap (λ (n : ℕ). over (vec_items v) at (take n (drop from es))) count in
     record {

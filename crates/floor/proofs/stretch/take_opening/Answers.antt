@@ -12,12 +12,12 @@ returns g c =
     let len = c.args.len in
     let from = (c.args.epoch - 1) * 64 in
     let at = c.args.c * 64 in
-    let ws = c.copy-at.new.table in
+    let ws = c.copy_at.new.table in
     let long : length ws ≡ vec_len v = search rules in
     let count : from + len - from ≡ len = omega arith in
     let rows : ws ≡ over (vec_items v) at (opening_of es c.args.epoch len) =
-    c.copy-at.ensures
-    ∙ ap (λ (xs : List E). over xs at (take (from + len - from) (drop from c.deref.result.now))) c.deref-mut.ensures.value
+    c.copy_at.ensures
+    ∙ ap (λ (xs : List E). over xs at (take (from + len - from) (drop from c.deref.result.now))) c.deref_mut.ensures.value
     ∙ ap (λ (xs : List E). over (vec_items v) at (take (from + len - from) (drop from xs))) c.deref.ensures.value
     ∙ ap (λ (n : ℕ). over (vec_items v) at (take n (drop from es))) count in
     record { after = λ b ks ss ls n. same_state _ _ refl refl refl refl refl (refilled_as v ws _ long rows) refl refl refl refl; bag = search rules }

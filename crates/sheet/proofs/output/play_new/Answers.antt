@@ -13,10 +13,10 @@ returns g c =
     let W = World M.Row M.Update in
     let meaning = g.C.ConfigService.meaning in
     let bs = c.args.sheet.now in
-    let first : W = world meaning (record { floor = c.new-2.result; tables = c.in-ok-tables.tables; config = c.args.config }) in
+    let first : W = world meaning (record { floor = c.new-2.result; tables = c.in_ok-tables.tables; config = c.args.config }) in
     let n = c.new-2.ensures in
-    let b = c.in-ok-tables.ensures in
-    let played = c.in-ok-tally.ensures in
+    let b = c.in_ok-tables.ensures in
+    let played = c.in_ok-tally.ensures in
     let same : first ≡ fresh_world M c.args.blank (meaning c.args.config) = λ i. record {
       floor = record {
         started = n.started i;

@@ -4,8 +4,8 @@ use Rattle.carousel.specs.Stations.{exchanged}
 use Rattle.carousel.specs.Tools.{exchanged_length, exchanged_tools, exchanged_once}
 use Rattle.carousel.proofs.stations.Carousel.exchange.Goals as goal
 
-pub invariant-of-self : goal.invariant-of-self
-invariant-of-self c =
+pub invariant_of-self : goal.invariant_of-self
+invariant_of-self c =
     let was = c.args.self.now in
     let s = c.args.station in
     let e : c.swap.new.self ≡ exchanged was.tools s = let a = c.swap.ensures.after in grind (arith, nat_tests) in

@@ -9,8 +9,8 @@ use Rattle.floor.specs.Seen.{seen}
 use Rattle.floor.proofs.Lawfuls.{kept_set}
 use Rattle.floor.proofs.floor.Floor.enter.Goals as goal
 
-pub invariant-of-self : goal.invariant-of-self
-invariant-of-self g c =
+pub invariant_of-self : goal.invariant_of-self
+invariant_of-self g c =
     let f = c.args.self.now in
     let k = get_or f.controllers c.args.controller no_controller in
     let s : Sound k = f.lawful c.args.controller c.requires.controller in
@@ -21,7 +21,7 @@ pub returns : goal.returns
 returns g c =
     let f = c.args.self.now in
     let k = get_or f.controllers c.args.controller no_controller in
-    let a = c.append-entry.ensures.after f.started (set f.controllers c.args.controller (longer k)) f.seats.at f.lengths f.sent in
+    let a = c.append_entry.ensures.after f.started (set f.controllers c.args.controller (longer k)) f.seats.at f.lengths f.sent in
     let M = meant_by g.S.Service in
     let i = c.args.controller in
     let t = put_speculative M (put_entry M (put_controller M (seen f c.args.tables.now) i (longer k)) (i * 64 + k.length) c.args.entry) i c.args.next in

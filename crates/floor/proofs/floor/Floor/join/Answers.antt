@@ -7,8 +7,8 @@ use Rattle.machine.specs.Rows.{no_controller, joined, all_joined}
 use Rattle.floor.proofs.Lawfuls.{kept_set, sound_joined}
 use Rattle.floor.proofs.floor.Floor.join.Goals as goal
 
-pub invariant-of-self-in-loop-c : goal.invariant-of-self-in-loop-c
-invariant-of-self-in-loop-c c =
+pub invariant_of-self-in-loop-c : goal.invariant_of-self-in-loop-c
+invariant_of-self-in-loop-c c =
     let f = c.loop-c.self in
     let s = f.lawful c.loop-c.c c.loop-c-test.true in
     let e = c.joined.ensures in

@@ -2,5 +2,5 @@ use Rattle.std.proofs.Common.{refl, arith}
 use Rattle.floor.proofs.Lawfuls.{lawful_new, short_new}
 use Rattle.floor.proofs.floor.Floor.new.Goals as goal
 
-pub invariant-of-result : goal.invariant-of-result
-invariant-of-result c = (refl, (lawful_new, (omega arith, (refl, (refl, (short_new, tt))))))
+pub invariant_of-result : goal.invariant_of-result
+invariant_of-result c = (refl, (lawful_new, (omega arith, (refl, (refl, (short_new, tt))))))

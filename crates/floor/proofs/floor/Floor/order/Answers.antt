@@ -19,7 +19,7 @@ returns g c =
     let i = c.args.controller in
     let k = get_or f.controllers i no_controller in
     let l = c.in-Leader.lead in
-    let w = c.in-ok-worked.worked in
+    let w = c.in_ok-worked.worked in
     let state = get_or t.speculative i M.opening in
     let long : long_tables M t ≡ true = search rules in
     let there : absent f.started f.controllers i ≡ None = search rules in
@@ -29,7 +29,7 @@ returns g c =
     let inside : i < length t.speculative = search rules in
     let row = get_or_read t.speculative i c.index.result.now inside c.index.ensures M.opening in
     let works : M.worked (M.mean state) c.args.command ≡ Ok w =
-    ap (λ (x : M.Row). M.worked (M.mean x) c.args.command) (sym row) ∙ sym c.in-ok-worked.ensures in
+    ap (λ (x : M.Row). M.worked (M.mean x) c.args.command) (sym row) ∙ sym c.in_ok-worked.ensures in
     let fits : space f.sent (without l.members i) ≡ true = search rules in
     let next : c.apply.result ≡ M.next state w.update = c.apply.ensures ∙ ap (λ (x : M.Row). M.next x w.update) row in
     let entry : Entry M.Update = record { epoch = k.epoch; serial = c.args.serial; update = w.update } in

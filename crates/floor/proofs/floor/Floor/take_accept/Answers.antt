@@ -13,7 +13,7 @@ returns g c =
     let M = meant_by g.S.Service in
     let i = c.args.controller in
     let k = get_or f.controllers i no_controller in
-    let a = c.append-entry.ensures.after f.started (set f.controllers i (longer k)) f.seats.at f.lengths f.sent in
+    let a = c.append_entry.ensures.after f.started (set f.controllers i (longer k)) f.seats.at f.lengths f.sent in
     let t = put_entry M (put_controller M (seen f c.args.tables.now) i (longer k)) (i * 64 + k.length) c.args.entry in
     let to_these : ℕ → Envelope M.Update = λ m. record { sender = i; to = m; message = Held c.args.epoch (k.length + 1) i } in
     c.send.ensures ∙ ap (λ (t : Here M). sending M t (to_these c.only-to.result)) a ∙ ap (λ (m : ℕ). sending M t (to_these m)) c.only-to.ensures

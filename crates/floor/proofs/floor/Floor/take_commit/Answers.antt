@@ -4,8 +4,8 @@ use Rattle.floor.specs.Lawful.{Sound}
 use Rattle.floor.proofs.Lawfuls.{kept_set}
 use Rattle.floor.proofs.floor.Floor.take_commit.Goals as goal
 
-pub invariant-of-self : goal.invariant-of-self
-invariant-of-self g c =
+pub invariant_of-self : goal.invariant_of-self
+invariant_of-self g c =
     let f = c.args.self.now in
     let k = get_or f.controllers c.args.controller no_controller in
     let s : Sound k = f.lawful c.args.controller c.requires.0 in

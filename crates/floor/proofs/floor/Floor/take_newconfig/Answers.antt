@@ -11,8 +11,8 @@ use Rattle.floor.specs.Seen.{seen}
 use Rattle.floor.proofs.Lawfuls.{kept_set, short_set}
 use Rattle.floor.proofs.floor.Floor.take_newconfig.Goals as goal
 
-pub invariant-of-self : goal.invariant-of-self
-invariant-of-self g c =
+pub invariant_of-self : goal.invariant_of-self
+invariant_of-self g c =
     let f = c.args.self.now in
     let i = c.args.controller in
     let e = c.args.epoch in
@@ -31,13 +31,13 @@ returns g c =
     let e = c.args.epoch in
     let k = get_or f.controllers i no_controller in
     let new = leading k e c.args.members in
-    let a = c.keep-opening.ensures.after f.started (set f.controllers i new) f.seats.at f.lengths f.sent in
+    let a = c.keep_opening.ensures.after f.started (set f.controllers i new) f.seats.at f.lengths f.sent in
     let states = vec_items tables.committed in
     let state = run M (get_or states i M.opening) (part es i k.delivered (k.length - k.delivered)) in
     let inside : i < length states = search rules in
     let row = get_or_read states i c.index-state.result.now inside c.index-state.ensures M.opening in
-    let runs : c.run-part.result ≡ state =
-    c.run-part.ensures
+    let runs : c.run_part.result ≡ state =
+    c.run_part.ensures
     ∙ ap (λ (x : M.Row). run M x (part c.deref.result.now i k.delivered (k.length - k.delivered))) row
     ∙ ap (λ (es : List (Entry M.Update)). run M (get_or states i M.opening) (part es i k.delivered (k.length - k.delivered))) c.deref.ensures.value in
     let t : M.Row → Here M = λ x. put_speculative M (put_opening M (put_controller M (seen f tables) i new) e (stretch es i k.length)) i x in

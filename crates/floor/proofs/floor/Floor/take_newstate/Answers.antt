@@ -16,7 +16,7 @@ returns g c =
     let e = c.args.epoch in
     let n = get_or f.lengths (e - 1) 0 in
     let k = following (get_or f.controllers i no_controller) e n in
-    let a = c.take-opening.ensures.after f.started (set f.controllers i k) f.seats.at f.lengths f.sent in
+    let a = c.take_opening.ensures.after f.started (set f.controllers i k) f.seats.at f.lengths f.sent in
     let t = put_list M (put_controller M (seen f tables) i k) i (opening_of (vec_items tables.openings) e n) in
     let to_these : ℕ → Envelope M.Update = λ m. record { sender = i; to = m; message = Held e n i } in
     c.send.ensures ∙ ap (λ (t : Here M). sending M t (to_these c.only-to.result)) a ∙ ap (λ (m : ℕ). sending M t (to_these m)) c.only-to.ensures

@@ -2,7 +2,7 @@ use Rattle.std.proofs.Common.{◌≡◌, ℕ, ◌+◌, List, get_or, None, Optio
 use Rattle.config.specs.Members.{other}
 use Rattle.machine.specs.Rows.{least, least_among, lesser_if}
 use Rattle.machine.proofs.controller.Lead.least.Goals as goal
-use Rattle.machine.proofs.controller.Lead.least.Goals.{then-has-other, else-has-other}
+use Rattle.machine.proofs.controller.Lead.least.Goals.{then-has_other, else-has_other}
 
 -- one controller more
 step : (m : ℕ) (told : List (Option ℕ)) (c own k : ℕ) → least_among m told c own (k + 1) ≡ lesser_if (other m c k) (get_or told k None) (least_among m told c own k)
@@ -11,9 +11,9 @@ step m told c own k = simp add-one
 pub loop-c-preserved : goal.loop-c-preserved
 loop-c-preserved c =
     let s = step c.args.self.now.members c.args.self.now.told c.args.this c.args.own c.loop-c.c in
-    elim c.if-has-other.branch [
-      | then-has-other w ↦ let q = sym w.if-has-other.ensures in simp (s, q) (cc)
-      | else-has-other w ↦ let q = sym w.if-has-other.ensures in simp (s, q) (cc)
+    elim c.if-has_other.branch [
+      | then-has_other w ↦ let q = sym w.if-has_other.ensures in simp (s, q) (cc)
+      | else-has_other w ↦ let q = sym w.if-has_other.ensures in simp (s, q) (cc)
     ]
 
 pub returns : goal.returns

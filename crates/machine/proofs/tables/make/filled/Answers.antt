@@ -5,7 +5,7 @@ use Rattle.machine.proofs.tables.make.filled.Goals as goal
 
 pub loop-i-preserved : goal.loop-i-preserved
 loop-i-preserved g c =
-    let pushed = c.in-ok-push.ensures.items in
+    let pushed = c.in_ok-push.ensures.items in
     let so_far = c.loop-i.invariant in
     let more = replicate_more c.loop-i.-i c.args.row in
     cc

@@ -14,8 +14,8 @@ returns-then-self-ge-LIMIT c =
     let l = length-take-le c.args.self.now.len c.args.self.now.rows (omega arith) in
     grind (arith, nat_tests)
 
-pub invariant-of-self : goal.invariant-of-self
-invariant-of-self c = (
+pub invariant_of-self : goal.invariant_of-self
+invariant_of-self c = (
   simp length-set c.args.self.now.sized,
   (
     omega arith,

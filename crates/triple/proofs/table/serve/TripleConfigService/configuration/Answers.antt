@@ -7,7 +7,7 @@ use Rattle.triple.proofs.table.serve.TripleConfigService.configuration.Goals as 
 pub returns-in-Some : goal.returns-in-Some
 returns-in-Some c =
     let was = c.args.self.now in
-    let a = answered was.copies was.up c.in-ok-last.last was.sized was.fits c.in-ok-last.ensures in
+    let a = answered was.copies was.up c.in_ok-last.last was.sized was.fits c.in_ok-last.ensures in
     let r = epoch_row was.copies was.up c.args.epoch was.sized was.fits a.0 (omega arith) (omega arith) in
     let lt : c.args.epoch - 1 < (longest was.copies).len = omega arith in
     let m = was.sound (c.args.epoch - 1) lt in

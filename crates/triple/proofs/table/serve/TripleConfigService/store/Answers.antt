@@ -7,10 +7,10 @@ use Rattle.triple.proofs.table.serve.TripleConfigService.store.Goals as goal
 kept : (s : Triple) → Keeps s.copies
 kept s = record { sized = s.sized; begins0 = s.begins0; begins1 = s.begins1; begins2 = s.begins2; twice = s.twice; fits = s.fits; sound = s.sound }
 
-pub invariant-of-self : goal.invariant-of-self
-invariant-of-self c =
+pub invariant_of-self : goal.invariant_of-self
+invariant_of-self c =
     let was = c.args.self.now in
-    let a = answered was.copies was.up c.in-ok-last.last was.sized was.fits c.in-ok-last.ensures in
+    let a = answered was.copies was.up c.in_ok-last.last was.sized was.fits c.in_ok-last.ensures in
     let room : (longest was.copies).len < 32 = omega arith in
     let k = keeps_after was.copies was.up c.row.result (kept was) room a.0 c.store.new.self c.store.ensures (simp c.row.ensures c.args.configuration.sound) in
     (k.sized, (k.begins0, (k.begins1, (k.begins2, (k.twice, (k.fits, (k.sound, tt)))))))
@@ -18,7 +18,7 @@ invariant-of-self c =
 pub returns : goal.returns
 returns c =
     let was = c.args.self.now in
-    let a = answered was.copies was.up c.in-ok-last.last was.sized was.fits c.in-ok-last.ensures in
+    let a = answered was.copies was.up c.in_ok-last.last was.sized was.fits c.in_ok-last.ensures in
     let room : (longest was.copies).len < 32 = omega arith in
     let e : c.args.expected ≡ (longest was.copies).len = omega arith in
     let g = granted was.copies was.up c.row.result (kept was) room a.0 c.args.expected e in
