@@ -158,7 +158,8 @@ impl Line {
     pub fn write(&self, out: &mut String) -> Result<(), AllocError>
         ensures { string_bytes out.new ≡ (if is_ok result then string_bytes out.old ++ text self.now else string_bytes out.old) }
     {
-        let written = format!(in out.allocator();
+        let alloc = *out.allocator();
+        let written = format!(in alloc;
             "{},{},{},{},{}\r\n",
             self.row, self.sheet, self.floor, self.inside, self.answer
         )?;

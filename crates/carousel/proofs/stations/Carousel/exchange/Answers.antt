@@ -9,4 +9,8 @@ invariant_of-self c =
     let was = c.args.self.now in
     let s = c.args.station in
     let e : c.swap.new.self ≡ exchanged was.tools s = let a = c.swap.ensures.after in grind (arith, nat_tests) in
-    simp e (exchanged_length was.tools s ∙ was.sized, (exchanged_tools was.tools s was.sized was.known, (exchanged_once was.tools s was.sized was.once, tt)))
+    record {
+      sized = simp e (exchanged_length was.tools s ∙ was.sized);
+      known = simp e (exchanged_tools was.tools s was.sized was.known);
+      once = simp e (exchanged_once was.tools s was.sized was.once);
+    }

@@ -13,7 +13,7 @@ invariant_of-self-in-loop-c c =
     let s = f.lawful c.loop-c.c c.loop-c-test.true in
     let e = c.joined.ensures in
     let h = kept_set f.controllers c.loop-c.c c.joined.result f.sized f.lawful (simp e (sound_joined c.args.row.members c.args.row.leader c.loop-c.c _ s)) in
-    (h.0, (h.1, (f.few, (f.seated, (f.counted, (f.short, tt))))))
+    record { sized = h.0; lawful = h.1; few = f.few; seated = f.seated; counted = f.counted; short = f.short }
 
 pub loop-c-preserved : goal.loop-c-preserved
 loop-c-preserved c =

@@ -10,4 +10,4 @@ invariant_of-self g c =
     let k = get_or f.controllers c.args.controller no_controller in
     let s : Sound k = f.lawful c.args.controller c.requires.0 in
     let h = kept_set f.controllers c.args.controller (delivered_to k c.reach-reached.result) f.sized f.lawful (omega (arith, c.reach-reached.ensures), omega arith) in
-    (h.0, (h.1, (f.few, (f.seated, (f.counted, (f.short, tt))))))
+    record { sized = h.0; lawful = h.1; few = f.few; seated = f.seated; counted = f.counted; short = f.short }

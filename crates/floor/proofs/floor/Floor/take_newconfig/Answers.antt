@@ -19,7 +19,14 @@ invariant_of-self g c =
     let k = get_or f.controllers i no_controller in
     let s : Sound k = f.lawful i c.requires.controller in
     let h = kept_set f.controllers i (leading k e c.args.members) f.sized f.lawful s in
-    (h.0, (h.1, (f.few, (f.seated, (simp length-set f.counted, (short_set f.lengths (e - 1) k.length f.short s.1, tt))))))
+    record {
+      sized = h.0;
+      lawful = h.1;
+      few = f.few;
+      seated = f.seated;
+      counted = simp length-set f.counted;
+      short = short_set f.lengths (e - 1) k.length f.short s.1;
+    }
 
 pub returns : goal.returns
 returns g c =

@@ -7,9 +7,9 @@ pub loop-i-preserved : goal.loop-i-preserved
 loop-i-preserved g c =
     let pushed = c.in_ok-push.ensures.items in
     let so_far = c.loop-i.invariant in
-    let more = replicate_more c.loop-i.-i c.args.row in
+    let more = replicate_more c.loop-i._i c.args.row in
     cc
 
 pub returns : goal.returns
 unfolding blank
-returns g c = let all : c.loop-i.-i ≡ c.args.n = omega arith in let so_far = c.loop-i.invariant in cc
+returns g c = let all : c.loop-i._i ≡ c.args.n = omega arith in let so_far = c.loop-i.invariant in cc

@@ -15,16 +15,11 @@ returns-then-self-ge-LIMIT c =
     grind (arith, nat_tests)
 
 pub invariant_of-self : goal.invariant_of-self
-invariant_of-self c = (
-  simp length-set c.args.self.now.sized,
-  (
-    omega arith,
-    (
-      lawful_more c.args.self.now.rows c.args.self.now.len c.row.result (omega arith) c.args.self.now.sound (simp c.row.ensures c.args.configuration.sound),
-      tt,
-    ),
-  ),
-)
+invariant_of-self c = record {
+  sized = simp length-set c.args.self.now.sized;
+  fits = omega arith;
+  sound = lawful_more c.args.self.now.rows c.args.self.now.len c.row.result (omega arith) c.args.self.now.sound (simp c.row.ensures c.args.configuration.sound);
+}
 
 pub returns : goal.returns
 returns c =

@@ -13,7 +13,7 @@ invariant_of-self c =
     let a = answered was.copies was.up c.in_ok-last.last was.sized was.fits c.in_ok-last.ensures in
     let room : (longest was.copies).len < 32 = omega arith in
     let k = keeps_after was.copies was.up c.row.result (kept was) room a.0 c.store.new.self c.store.ensures (simp c.row.ensures c.args.configuration.sound) in
-    (k.sized, (k.begins0, (k.begins1, (k.begins2, (k.twice, (k.fits, (k.sound, tt)))))))
+    record { sized = k.sized; begins0 = k.begins0; begins1 = k.begins1; begins2 = k.begins2; twice = k.twice; fits = k.fits; sound = k.sound }
 
 pub returns : goal.returns
 returns c =
