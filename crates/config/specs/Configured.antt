@@ -1,5 +1,5 @@
 -- What a configuration service means.
-use Rattle.std.specs.Prelude.{◌≡◌, ℕ, ◌+◌, ◌-◌, ◌<◌, ◌≤◌, Bool, true, false, cond, List, [], ◌∷◌, ◌++◌, length, get_or, Ok, Err, Result, ◌==◌, nat_le, nat_lt, slice_index_or}
+use Rattle.std.specs.Prelude.{◌≡◌, ℕ, ◌+◌, ◌-◌, ◌<◌, ◌≤◌, Bool, true, cond, List, [], ◌∷◌, ◌++◌, length, get_or, Ok, Err, Result, ◌==◌, nat_le, nat_lt, slice_index_or}
 use Rattle.config.specs.declared.row.ConfigRow.{ConfigRow}
 use Rattle.config.specs.declared.row.ConfigFault.{ConfigFault}
 use Rattle.config.specs.declared.row.ConfigFault.TheVariants.{Closed, Stale, Full, NoEpoch}

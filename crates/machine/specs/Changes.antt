@@ -1,5 +1,5 @@
 -- The machine's calls that change a configuration, and the calls together.
-use Rattle.std.specs.Prelude.{ℕ, ◌+◌, ◌-◌, Bool, true, false, cond, not, ◌&&◌, List, Some, None, Ok, Err, Option, Result, ◌==◌, nat_lt, slice_index_or}
+use Rattle.std.specs.Prelude.{ℕ, ◌+◌, ◌-◌, Bool, true, false, cond, not, ◌&&◌, Some, None, Ok, Err, Option, Result, ◌==◌, nat_lt, slice_index_or}
 use Rattle.service.specs.Meant.{Meant}
 use Rattle.config.specs.Members.{member, only}
 use Rattle.config.specs.Made.{made}
@@ -11,13 +11,12 @@ use Rattle.machine.specs.declared.call.Call.TheVariants.{Start, Order, Settle, H
 use Rattle.machine.specs.declared.envelope.Envelope.{Envelope}
 use Rattle.machine.specs.declared.envelope.Message.{Message}
 use Rattle.machine.specs.declared.envelope.Message.TheVariants.{Commit, Accept, Held, Probe, Answer, NewConfig, NewState}
-use Rattle.machine.specs.declared.fault.Fault.{Fault}
 use Rattle.machine.specs.declared.fault.Fault.TheVariants.{ShortTables, NotStarted, OutOfRange, Unlawful, NotAddressed, WrongState, NothingNew, BagFull}
 use Rattle.machine.specs.declared.seat.Seat.{Seat}
 use Rattle.machine.specs.declared.seat.Seat.TheVariants.{Idle, Probing}
 use Rattle.machine.specs.Faults.{of_config}
 use Rattle.machine.specs.Rows.{stopped}
-use Rattle.machine.specs.Machine.{State, in_range, absent, no_envelope, Here, After, Both, refuse, grant, ask, unless, long_tables, at, put_controller, put_seat, post, with_config, ordered, settled, handed, started_by}
+use Rattle.machine.specs.Machine.{in_range, absent, no_envelope, Here, After, Both, refuse, grant, ask, unless, long_tables, at, put_controller, put_seat, post, with_config, ordered, settled, handed, started_by}
 
 -- a call with its arguments
 pub data Act (C : Type 0) : Type 0 where

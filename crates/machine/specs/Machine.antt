@@ -1,5 +1,5 @@
 -- The machine: what each call answers and what every table is afterwards, granted or refused.
-use Rattle.std.specs.Prelude.{ℕ, ◌+◌, ◌-◌, ◌*◌, Bool, true, false, cond, ◌&&◌, ◌||◌, List, [], ◌∷◌, ◌++◌, length, get_or, take, drop, replicate, Some, None, Ok, Err, Option, Result, ◌==◌, nat_le, nat_lt, slice_index, slice_index_or, slice_set}
+use Rattle.std.specs.Prelude.{ℕ, ◌+◌, ◌-◌, ◌*◌, Bool, true, cond, ◌&&◌, ◌||◌, List, [], ◌∷◌, ◌++◌, length, get_or, take, drop, replicate, Some, None, Ok, Err, Option, Result, ◌==◌, nat_le, nat_lt, slice_index, slice_index_or, slice_set}
 use Rattle.service.specs.Meant.{Meant}
 use Rattle.service.specs.declared.ServiceFault.{ServiceFault}
 use Rattle.service.specs.declared.Worked.{Worked}
@@ -22,9 +22,8 @@ use Rattle.machine.specs.declared.envelope.Message.TheVariants.{Commit, Accept, 
 use Rattle.machine.specs.declared.fault.Fault.{Fault}
 use Rattle.machine.specs.declared.fault.Fault.TheVariants.{ShortTables, NotStarted, Started, OutOfRange, Unlawful, Stopped, NotAddressed, WrongState, NothingNew, NoGround, SerialTaken, ListFull, BagFull}
 use Rattle.machine.specs.declared.seat.Seat.{Seat}
-use Rattle.machine.specs.declared.seat.Seat.TheVariants.{Idle, Probing}
 use Rattle.machine.specs.Faults.{of_service, of_config}
-use Rattle.machine.specs.Rows.{no_controller, follows, takes_part, leads_other, told_by, more, least, reach, longer, delivered_to, with_role, settled_at, told_to, all_joined, promised, leading, following, stopped}
+use Rattle.machine.specs.Rows.{no_controller, follows, takes_part, leads_other, told_by, more, least, reach, longer, delivered_to, with_role, settled_at, told_to, all_joined, promised, leading, following}
 
 -- A floor with its tables. X is the service's rows, U its updates.
 pub record State (X U : Type 0) : Type 0 where

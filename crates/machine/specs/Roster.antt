@@ -1,6 +1,6 @@
 -- Roster: which controllers hold a serial. It reads the floor and changes nothing of it; it writes into bytes that the
 -- caller lends. The order in which it writes the controllers is left free, and nothing else.
-use Rattle.std.specs.Prelude.{◌≡◌, ℕ, zero, suc, ◌+◌, Bool, true, false, cond, ◌&&◌, List, [], ◌∷◌, ◌++◌, length, drop, Some, None, Ok, Err, Option, Result, ◌==◌, nat_le}
+use Rattle.std.specs.Prelude.{◌≡◌, ℕ, zero, suc, ◌+◌, Bool, cond, ◌&&◌, List, [], ◌∷◌, ◌++◌, length, drop, Some, None, Ok, Err, Option, Result, ◌==◌, nat_le}
 use Rattle.service.specs.Meant.{Meant}
 use Rattle.entries.specs.Lists.{holds}
 use Rattle.machine.specs.declared.fault.Fault.{Fault}

@@ -1,5 +1,5 @@
 -- Three copies of one list of configurations.
-use Rattle.std.specs.Prelude.{◌≡◌, ℕ, ◌+◌, Bool, true, false, cond, List, [], ◌∷◌, length, take, replicate, ◌==◌, nat_lt, slice_index_or, slice_set}
+use Rattle.std.specs.Prelude.{◌≡◌, ◌+◌, Bool, true, false, cond, List, [], ◌∷◌, length, take, replicate, ◌==◌, nat_lt, slice_index_or, slice_set}
 use Rattle.config.specs.declared.row.ConfigRow.{ConfigRow}
 use Rattle.config.specs.Configured.{no_row}
 use Rattle.triple.specs.declared.copies.CopyRows.{CopyRows}

@@ -1,4 +1,4 @@
-use Rattle.std.proofs.Common.{◌≡◌, ℕ, cond, List, Some, None, Option, ap, arith}
+use Rattle.std.proofs.Common.{ℕ, cond, List, Some, None, Option, ap, arith}
 use Rattle.std.proofs.lemmas.List.FromFn.{fill_by_all}
 use Rattle.config.specs.Members.{other}
 use Rattle.machine.specs.declared.controller.Lead.{Lead}
