@@ -1,5 +1,5 @@
 -- A new floor's record: not started, all controllers running and fresh, all seats idle, no envelope sent.
-use Rattle.std.specs.Prelude.{◌≡◌, ℕ, true, false, replicate}
+use Rattle.std.specs.Prelude.{◌≡◌, true, false, replicate}
 use Rattle.machine.specs.declared.controller.Controller.{Controller}
 use Rattle.machine.specs.declared.controller.Role.TheVariants.{Fresh}
 use Rattle.machine.specs.declared.seat.Seat.TheVariants.{Idle}

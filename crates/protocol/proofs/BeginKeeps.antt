@@ -1,13 +1,11 @@
 -- The start of epoch 1 makes the invariant hold, and a view in which nothing happened has it.
-use Rattle.std.proofs.Common.{◌≡◌, ℕ, ◌+◌, ◌<◌, ◌≤◌, Bool, true, false, cond, eqb, ◌⊎◌, List, [], ◌∷◌, ◌++◌, length, take, Some, sym, refl, ap, ◌∙◌, inl, inr, arith}
+use Rattle.std.proofs.Common.{◌≡◌, ℕ, ◌<◌, ◌≤◌, Bool, true, false, cond, ◌⊎◌, List, [], length, Some, sym, refl, ap, inl, inr, arith}
 use Rattle.std.specs.List.{slice_get}
-use Rattle.std.proofs.lemmas.List.{nil_from_length}
-use Rattle.std.proofs.lemmas.Bool.{cases_lt, cases_eq, cases_Bool, eq-eqb, ne_eqb}
-use Rattle.std.proofs.lemmas.Bool.Decides.{nat_tests}
+use Rattle.std.proofs.lemmas.Bool.{cases_eq, cases_Bool, eq-eqb, ne_eqb}
 use Rattle.entries.specs.declared.Entry.{Entry}
-use Rattle.protocol.proofs.View.{View, fold, Prefix, Nos, AllHeld, Fit, upd, upd2, begin}
+use Rattle.protocol.proofs.View.{View, fold, upd, begin}
 use Rattle.protocol.proofs.Inv.{Inv}
-use Rattle.protocol.proofs.Lists.{nth_within, prefix_length}
+use Rattle.protocol.proofs.Lists.{nth_within}
 
 module _ {U X : Type 0} (act : X → U → X) (x₀ : X) where
   -- a view in which nothing happened yet

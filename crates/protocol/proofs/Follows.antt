@@ -1,10 +1,10 @@
 -- What follows from the invariant in a single view.
-use Rattle.std.proofs.Common.{◌≡◌, ℕ, zero, suc, ◌+◌, ◌<◌, ◌≤◌, true, false, [], length, Some, sym, ap, ◌∙◌, inl, inr, arith}
+use Rattle.std.proofs.Common.{◌≡◌, ℕ, zero, suc, ◌<◌, ◌≤◌, true, [], length, Some, sym, ap, ◌∙◌, inl, inr, arith}
 use Rattle.std.specs.List.{slice_get}
 use Rattle.std.proofs.lemmas.Bool.{cases_lt, cases_eq}
 use Rattle.entries.specs.declared.Entry.{Entry}
 use Rattle.protocol.proofs.Lists.{nth_some}
-use Rattle.protocol.proofs.View.{View, Nos, AllHeld}
+use Rattle.protocol.proofs.View.{View, AllHeld}
 use Rattle.protocol.proofs.Inv.{Inv}
 
 module _ {U X : Type 0} (act : X → U → X) (x₀ : X) where

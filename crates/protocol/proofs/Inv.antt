@@ -1,5 +1,5 @@
 -- What holds of every view that the steps make.
-use Rattle.std.proofs.Common.{◌≡◌, ℕ, ◌+◌, ◌<◌, ◌≤◌, Bool, true, false, ◌⊎◌, List, [], ◌∷◌, length, take, Some}
+use Rattle.std.proofs.Common.{◌≡◌, ℕ, ◌<◌, ◌≤◌, true, false, ◌⊎◌, [], length, take, Some}
 use Rattle.std.specs.List.{slice_get}
 use Rattle.entries.specs.declared.Entry.{Entry}
 use Rattle.protocol.proofs.View.{View, fold, Prefix, Nos, AllHeld, Fit}

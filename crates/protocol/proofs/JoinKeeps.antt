@@ -1,10 +1,8 @@
 -- A controller that joins an opened epoch keeps the invariant.
-use Rattle.std.proofs.Common.{◌≡◌, ℕ, ◌+◌, ◌<◌, ◌≤◌, Bool, true, false, ◌⊎◌, List, [], ◌∷◌, length, take, Some, sym, refl, ap, ◌∙◌, inl, inr, arith}
-use Rattle.std.specs.List.{slice_get}
+use Rattle.std.proofs.Common.{◌≡◌, ℕ, ◌<◌, ◌≤◌, true, length, inl, inr, arith}
 use Rattle.std.proofs.lemmas.Bool.{cases_eq, eq-eqb, ne_eqb}
 use Rattle.std.proofs.lemmas.Bool.Decides.{nat_tests}
-use Rattle.entries.specs.declared.Entry.{Entry}
-use Rattle.protocol.proofs.View.{View, Prefix, Nos, AllHeld, Fit, upd, upd2, join}
+use Rattle.protocol.proofs.View.{View, Prefix, join}
 use Rattle.protocol.proofs.Inv.{Inv}
 use Rattle.protocol.proofs.Lists.{nth_within, prefix_length}
 use Rattle.protocol.proofs.Follows.{key}

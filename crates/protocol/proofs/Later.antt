@@ -1,10 +1,10 @@
 -- What only grows from view to view.
-use Rattle.std.proofs.Common.{◌≡◌, ℕ, ◌+◌, ◌<◌, ◌≤◌, Bool, true, false, cond, eqb, ◌⊎◌, List, [], ◌∷◌, ◌++◌, length, take, Some, sym, refl, ap, ◌∙◌, inl, inr, arith}
+use Rattle.std.proofs.Common.{◌≡◌, ℕ, ◌+◌, ◌<◌, ◌≤◌, Bool, true, false, eqb, length, Some, sym, refl, ap, ◌∙◌, inl, inr, arith}
 use Rattle.std.specs.List.{slice_get}
 use Rattle.std.proofs.lemmas.Bool.{cases_eq, eq-eqb, ne_eqb}
 use Rattle.std.proofs.lemmas.Bool.Decides.{nat_tests}
 use Rattle.entries.specs.declared.Entry.{Entry}
-use Rattle.protocol.proofs.View.{View, fold, Prefix, Nos, AllHeld, Fit, upd, upd2, begin, order, accept, deliver, promised, open_epoch, join, store}
+use Rattle.protocol.proofs.View.{View, Prefix, Nos, AllHeld, Fit, begin, order, accept, deliver, promised, open_epoch, join, store}
 use Rattle.protocol.proofs.Inv.{Inv}
 use Rattle.protocol.proofs.Lists.{nth_within, take_tells, prefix_length}
 use Rattle.protocol.proofs.OrderKeeps.{push_keeps}

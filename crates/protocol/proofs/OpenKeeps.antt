@@ -1,12 +1,10 @@
 -- A controller that opens an epoch which it leads keeps the invariant.
-use Rattle.std.proofs.Common.{◌≡◌, ℕ, ◌+◌, ◌<◌, ◌≤◌, Bool, true, false, eqb, ◌⊎◌, List, [], ◌∷◌, ◌++◌, length, take, drop, Some, sym, refl, ap, ◌∙◌, inl, inr, arith}
-use Rattle.std.specs.List.{slice_get}
+use Rattle.std.proofs.Common.{◌≡◌, ℕ, ◌<◌, ◌≤◌, true, false, eqb, ◌⊎◌, length, drop, sym, refl, ap, ◌∙◌, inl, inr, arith}
 use Rattle.std.proofs.lemmas.Bool.{cases_lt, cases_eq, eq-eqb, ne_eqb}
 use Rattle.std.proofs.lemmas.Bool.Decides.{nat_tests}
-use Rattle.entries.specs.declared.Entry.{Entry}
-use Rattle.protocol.proofs.View.{View, fold, Prefix, Nos, AllHeld, Fit, upd, upd2, open_epoch}
+use Rattle.protocol.proofs.View.{View, fold, upd, open_epoch}
 use Rattle.protocol.proofs.Inv.{Inv}
-use Rattle.protocol.proofs.Lists.{nth_within, prefix_length, prefix_split, fold_append}
+use Rattle.protocol.proofs.Lists.{nth_within, prefix_split, fold_append}
 
 module _ {U X : Type 0} (act : X → U → X) (x₀ : X) where
   pub open_keeps : (v : View U X) (c e : ℕ) → Inv act x₀ v → 2 ≤ e → e ≤ v.last → v.leader e ≡ c → v.promise c ≡ e → v.epoch c < e

@@ -1,11 +1,11 @@
 -- A leader that makes an entry keeps the invariant.
-use Rattle.std.proofs.Common.{◌≡◌, ℕ, ◌+◌, ◌<◌, ◌≤◌, Bool, true, false, cond, eqb, ◌⊎◌, List, [], ◌∷◌, ◌++◌, length, take, Some, sym, refl, ap, ◌∙◌, inl, inr, arith}
+use Rattle.std.proofs.Common.{◌≡◌, ℕ, ◌+◌, ◌<◌, ◌≤◌, true, List, [], ◌∷◌, ◌++◌, length, Some, sym, ap, ◌∙◌, inl, inr, arith}
 use Rattle.std.specs.List.{slice_get}
 use Rattle.std.proofs.lemmas.List.{length_push, take-append-le, take_at}
-use Rattle.std.proofs.lemmas.Bool.{cases_lt, cases_eq, eq-eqb, ne_eqb}
+use Rattle.std.proofs.lemmas.Bool.{cases_eq, eq-eqb, ne_eqb}
 use Rattle.std.proofs.lemmas.Bool.Decides.{nat_tests}
 use Rattle.entries.specs.declared.Entry.{Entry}
-use Rattle.protocol.proofs.View.{View, fold, Prefix, Nos, AllHeld, Fit, upd, upd2, order}
+use Rattle.protocol.proofs.View.{View, fold, upd, order}
 use Rattle.protocol.proofs.Inv.{Inv}
 use Rattle.protocol.proofs.Lists.{nth_within, push_tells, prefix_length, fold_append}
 

@@ -1,6 +1,6 @@
 -- The protocol view: what safety needs of a floor and no more, with its history. Controllers and epochs are numbers.
 -- Its steps are looser than the machine's calls. Envelopes and seats are not part of it: what they say is stable.
-use Rattle.std.proofs.Common.{◌≡◌, ℕ, ◌+◌, ◌<◌, ◌≤◌, Bool, true, false, cond, eqb, ◌⊎◌, List, [], ◌∷◌, ◌++◌, length, take, drop, Some}
+use Rattle.std.proofs.Common.{◌≡◌, ℕ, ◌+◌, ◌<◌, ◌≤◌, Bool, true, cond, eqb, List, [], ◌∷◌, ◌++◌, length, take, drop, Some}
 use Rattle.std.specs.List.{slice_get}
 use Rattle.entries.specs.declared.Entry.{Entry}
 

@@ -1,5 +1,5 @@
 -- What a row says: a call with its arguments, or why it is refused. Each question is asked of the whole row before the next.
-use Rattle.std.specs.Prelude.{ℕ, Bool, true, false, cond, List, [], ◌∷◌, Some, None, Ok, Err, Option, Result, ◌==◌}
+use Rattle.std.specs.Prelude.{ℕ, cond, List, [], ◌∷◌, Some, None, Ok, Err, Result, ◌==◌}
 use Rattle.machine.specs.declared.call.Call.{Call}
 use Rattle.machine.specs.declared.call.Call.TheVariants.{Start, Order, Settle, Hand}
 use Rattle.rows.specs.Sheet.{printable, fields, Said, letter, number, other, said_of}
