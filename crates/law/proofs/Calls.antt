@@ -1,31 +1,28 @@
 -- Hand of every kind.
-use Rattle.std.proofs.Common.{◌≡◌, ℕ, zero, suc, ◌+◌, ◌-◌, ◌*◌, ◌<◌, ◌≤◌, Bool, true, false, cond, ◌&&◌, eqb, ltb, leb, ◌⊎◌, List, [], ◌∷◌, ◌++◌, length, get_or, take, drop, set, Some, None, Ok, Err, Option, Result, sym, refl, ap, ◌∙◌, subst, inl, inr, arith}
+use Rattle.std.proofs.Common.{◌≡◌, ℕ, ◌-◌, ◌*◌, ◌<◌, ◌≤◌, Bool, true, false, cond, ◌&&◌, eqb, ltb, leb, List, [], ◌++◌, length, get_or, take, drop, Some, None, Ok, Option, Result, sym, refl, ap, ◌∙◌, inl, inr, arith}
 use Rattle.std.specs.List.{slice_get}
-use Rattle.std.proofs.lemmas.Bool.{cases_lt, cases_eq, cases_Bool, ltb-true, leb-true, and_parts, eqb-true, eq-eqb, ne_eqb}
+use Rattle.std.proofs.lemmas.Bool.{cases_eq, ltb-true, leb-true, and_parts, eqb-true, eq-eqb, ne_eqb}
 use Rattle.std.proofs.lemmas.List.{append-nil}
 use Rattle.service.specs.Meant.{Meant, Means}
 use Rattle.config.specs.Members.{member, without}
 use Rattle.config.specs.Configured.{Configured}
 use Rattle.entries.specs.declared.Entry.{Entry}
-use Rattle.machine.specs.declared.controller.Controller.{Controller}
 use Rattle.machine.specs.declared.controller.Lead.{Lead}
 use Rattle.machine.specs.declared.controller.Role.{Role}
 use Rattle.machine.specs.declared.controller.Role.TheVariants.{Fresh, Follower, Leader}
-use Rattle.machine.specs.declared.envelope.Envelope.{Envelope}
 use Rattle.machine.specs.declared.envelope.Message.{Message}
 use Rattle.machine.specs.declared.envelope.Message.TheVariants.{Commit, Accept, Held, Probe, Answer, NewConfig, NewState}
 use Rattle.machine.specs.declared.fault.Fault.{Fault}
 use Rattle.machine.specs.declared.fault.Fault.TheVariants.{ShortTables, NotStarted, OutOfRange, Stopped, NotAddressed}
 use Rattle.machine.specs.Rows.{reach, follows, takes_part, leads_other}
-use Rattle.machine.specs.Machine.{Here, After, at, part, space, in_range, untaken, unhanded, long_tables, no_envelope, refuse, grant, ask, unless, taken, handed_over, handed, delivered}
-use Rattle.machine.specs.Changes.{Act, hand}
+use Rattle.machine.specs.Machine.{Here, at, part, space, in_range, untaken, unhanded, long_tables, no_envelope, ask, taken, handed_over, handed}
+use Rattle.machine.specs.Changes.{hand}
 use Rattle.protocol.proofs.View.{deliver, accept, promised, open_epoch, join}
 use Rattle.protocol.proofs.Lists.{take_tells, nth_within, prefix_split}
 use Rattle.law.specs.Lives.{letter, applies, delivers}
-use Rattle.law.proofs.Seen.{Sight, Safe, Grown, Says, Plays, Leading, Stands, Seen, first}
-use Rattle.law.proofs.Goals.{To, OpensWith, Opened, Fact, Goes, refused_goes}
+use Rattle.law.proofs.Seen.{Sight, Safe, Says, Seen, first}
+use Rattle.law.proofs.Goals.{OpensWith, Opened, Goes, refused_goes}
 use Rattle.law.proofs.Frames.{asked, unrefused}
-use Rattle.law.proofs.Tables.{length_part}
 use Rattle.law.proofs.Hands.{reach_most, reach_least, part_of_list, commit_goes, accept_goes, held_goes, probe_goes}
 use Rattle.law.proofs.Opens.{newconfig_goes, newstate_goes}
 

@@ -1,20 +1,17 @@
 -- What a call leaves as it was is seen as it was.
-use Rattle.std.proofs.Common.{◌≡◌, ℕ, ◌+◌, ◌-◌, ◌*◌, ◌<◌, ◌≤◌, Bool, true, false, cond, eqb, ◌⊎◌, List, length, get_or, set, Some, None, Option, sym, refl, ap, ◌∙◌, subst, inl, inr, arith}
-use Rattle.std.proofs.lemmas.Bool.{cases_lt, cases_eq, cases_Bool}
-use Rattle.std.proofs.lemmas.List.{length-set}
+use Rattle.std.proofs.Common.{◌≡◌, ℕ, ◌+◌, ◌<◌, Bool, true, false, length, get_or, set, Some, None, Option, sym, refl, ap, ◌∙◌, inl, inr, arith}
+use Rattle.std.proofs.lemmas.Bool.{cases_lt}
 use Rattle.service.specs.Meant.{Meant}
-use Rattle.config.specs.Members.{member}
-use Rattle.config.specs.Configured.{Configured, no_row}
+use Rattle.config.specs.Configured.{Configured}
 use Rattle.machine.specs.declared.controller.Controller.{Controller}
 use Rattle.machine.specs.declared.controller.Role.{Role}
 use Rattle.machine.specs.declared.controller.Role.TheVariants.{Fresh, Follower, Leader}
 use Rattle.machine.specs.declared.envelope.Envelope.{Envelope}
 use Rattle.machine.specs.declared.fault.Fault.{Fault}
 use Rattle.machine.specs.declared.seat.Seat.{Seat}
-use Rattle.machine.specs.declared.seat.Seat.TheVariants.{Idle, Probing}
-use Rattle.machine.specs.Rows.{no_controller}
-use Rattle.machine.specs.Machine.{Here, After, at, stretch, no_envelope, refuse, ask, unless}
-use Rattle.law.proofs.Seen.{Sight, Safe, Grown, Says, Sits, Plays, Leading, Stands, Seen, says_later, sits_later}
+use Rattle.machine.specs.declared.seat.Seat.TheVariants.{Idle}
+use Rattle.machine.specs.Machine.{Here, After, stretch, no_envelope, refuse, ask, unless}
+use Rattle.law.proofs.Seen.{Sight, Safe, Grown, Says, Sits, Plays, Stands, Seen, says_later, sits_later}
 use Rattle.law.proofs.Tables.{set_at}
 
 module _ (M : Meant) where

@@ -1,31 +1,28 @@
 -- Hand of COMMIT, ACCEPT, HELD and PROBE.
-use Rattle.std.proofs.Common.{◌≡◌, ℕ, zero, suc, ◌+◌, ◌-◌, ◌*◌, ◌<◌, ◌≤◌, Bool, true, false, cond, ◌&&◌, eqb, ltb, leb, ◌⊎◌, List, [], ◌∷◌, ◌++◌, length, get_or, take, drop, set, Some, None, Option, sym, refl, ap, ◌∙◌, subst, inl, inr, arith}
+use Rattle.std.proofs.Common.{◌≡◌, ℕ, ◌+◌, ◌-◌, ◌*◌, ◌<◌, ◌≤◌, Bool, true, false, ltb, leb, List, [], ◌∷◌, ◌++◌, length, get_or, take, drop, set, Some, None, sym, refl, ap, ◌∙◌, subst, inl, inr, arith}
 use Rattle.std.specs.List.{slice_get}
-use Rattle.std.proofs.lemmas.Bool.{cases_lt, cases_eq, cases_Bool, ltb-true, lt-ltb, leb-true, leb-false, and_parts, eqb-true, eq-eqb, ne_eqb}
-use Rattle.std.proofs.lemmas.Bool.Decides.{nat_tests}
+use Rattle.std.proofs.lemmas.Bool.{cases_lt, cases_eq, ltb-true, lt-ltb, leb-true, leb-false, eq-eqb, ne_eqb}
 use Rattle.std.proofs.lemmas.List.{length-set, get_or-set_same, get_or-set_other, set_past, length-take-le, take-take, drop-take, drop-drop}
 use Rattle.service.specs.Meant.{Meant, Means}
 use Rattle.config.specs.Members.{member, only}
 use Rattle.config.specs.Configured.{Configured}
 use Rattle.entries.specs.declared.Entry.{Entry}
-use Rattle.machine.specs.declared.controller.Controller.{Controller}
 use Rattle.machine.specs.declared.controller.Lead.{Lead}
 use Rattle.machine.specs.declared.controller.Role.{Role}
 use Rattle.machine.specs.declared.controller.Role.TheVariants.{Fresh, Follower, Leader}
 use Rattle.machine.specs.declared.envelope.Envelope.{Envelope}
-use Rattle.machine.specs.declared.envelope.Message.{Message}
-use Rattle.machine.specs.declared.envelope.Message.TheVariants.{Commit, Accept, Held, Probe, Answer, NewConfig, NewState}
-use Rattle.machine.specs.Rows.{longer, delivered_to, with_role, told_to, promised as promising, reach, follows, takes_part, leads_other, told_by, more}
-use Rattle.machine.specs.Machine.{Here, After, at, stretch, part, run, grant, put_controller, put_entry, put_committed, post, send, delivered, accepted, told, probed, untaken}
+use Rattle.machine.specs.declared.envelope.Message.TheVariants.{Held, Probe, Answer}
+use Rattle.machine.specs.Rows.{longer, delivered_to, with_role, told_to, promised as promising, reach, takes_part}
+use Rattle.machine.specs.Machine.{Here, at, part, run, grant, put_controller, put_entry, put_committed, delivered, accepted, told, probed}
 use Rattle.protocol.proofs.View.{AllHeld, fold, deliver, accept, promised}
 use Rattle.protocol.proofs.DeliverKeeps.{deliver_keeps}
 use Rattle.protocol.proofs.AcceptKeeps.{accept_keeps}
 use Rattle.protocol.proofs.PromisedKeeps.{promised_keeps}
 use Rattle.protocol.proofs.Later.{deliver_later, accept_later, promised_later}
-use Rattle.law.proofs.Seen.{Sight, Safe, Grown, Says, Plays, Leading, Stands, Seen, first, says_later}
+use Rattle.law.proofs.Seen.{Sight, Safe, Grown, Says, Plays, Leading, Seen, first, says_later}
 use Rattle.law.proofs.Tables.{length_part, part_apart, part_push}
-use Rattle.law.proofs.Frames.{Alike, bag_later, seats_later, plays_later}
-use Rattle.law.proofs.Moves.{Sized, seen_by, stands_set, seen_controller, seen_send, seen_post}
+use Rattle.law.proofs.Frames.{bag_later, seats_later, plays_later}
+use Rattle.law.proofs.Moves.{seen_by, stands_set, seen_controller, seen_send, seen_post}
 use Rattle.law.proofs.Goals.{To, to_same}
 
 -- how far a COMMIT reaches lies between what is delivered and what it says

@@ -1,10 +1,10 @@
 -- The three facts, from the views of a life.
-use Rattle.std.proofs.Common.{◌≡◌, ℕ, zero, suc, ◌+◌, ◌-◌, ◌<◌, ◌≤◌, Bool, true, false, cond, ◌&&◌, eqb, ltb, ◌⊎◌, List, [], ◌∷◌, ◌++◌, length, get_or, take, drop, Some, None, Ok, Err, Option, Result, sym, refl, ap, ◌∙◌, subst, inl, inr, arith}
+use Rattle.std.proofs.Common.{◌≡◌, ℕ, zero, suc, ◌+◌, ◌<◌, ◌≤◌, true, ◌&&◌, eqb, ltb, List, [], ◌∷◌, ◌++◌, length, get_or, take, drop, Some, None, Ok, Err, Option, Result, sym, refl, ap, ◌∙◌, subst, inl, inr, arith}
 use Rattle.std.specs.List.{slice_get}
-use Rattle.std.proofs.lemmas.Bool.{cases_lt, cases_eq, cases_Bool, eqb-true, ltb-true, and_parts}
-use Rattle.std.proofs.lemmas.List.{append-nil, append_assoc, length-append}
+use Rattle.std.proofs.lemmas.Bool.{cases_lt, cases_Bool, eqb-true, ltb-true, and_parts}
+use Rattle.std.proofs.lemmas.List.{append_assoc, length-append}
 use Rattle.service.specs.Meant.{Meant, Means}
-use Rattle.config.specs.Configured.{Configured, Kept}
+use Rattle.config.specs.Configured.{Configured}
 use Rattle.entries.specs.declared.Entry.{Entry}
 use Rattle.machine.specs.declared.controller.Lead.{Lead}
 use Rattle.machine.specs.declared.controller.Role.{Role}
@@ -13,15 +13,15 @@ use Rattle.machine.specs.declared.envelope.Message.TheVariants.{Commit}
 use Rattle.machine.specs.declared.fault.Fault.{Fault}
 use Rattle.machine.specs.declared.fault.Fault.TheVariants.{ShortTables, NotStarted, OutOfRange, NothingNew, BagFull}
 use Rattle.machine.specs.Rows.{least, with_role, settled_at}
-use Rattle.machine.specs.Machine.{Here, After, at, absent, space, run, long_tables, no_envelope, refuse, grant, ask, unless, put_controller, send, settled_with, settling, settled, handed, handed_over}
+use Rattle.machine.specs.Machine.{Here, After, at, absent, space, long_tables, no_envelope, grant, ask, unless, put_controller, send, settled_with, settling, settled, handed, handed_over}
 use Rattle.machine.specs.Changes.{Act, start, order, settle, hand, report, begin, lower, propose, abandon, stop, act}
 use Rattle.protocol.proofs.View.{Prefix, AllHeld, fold}
-use Rattle.protocol.proofs.Lists.{nth_within, nth_some, take_tells, prefix_length, prefix_split, prefix_same, fold_append, push_tells}
+use Rattle.protocol.proofs.Lists.{nth_within, nth_some, take_tells, prefix_split, fold_append, push_tells}
 use Rattle.protocol.proofs.Follows.{key, Back, back}
 use Rattle.protocol.proofs.Later.{held_later}
-use Rattle.law.specs.Lives.{World, New, Call, opening, outcome, next, moment, holds, letter, delivers, delivered}
-use Rattle.law.specs.Safety.{Begins, Settles, Opens, WorksOut, Delivers, Agree, Stays, Matches, Law}
-use Rattle.law.proofs.Seen.{Sight, Safe, Grown, Plays, Leading, Stands, Seen, first}
+use Rattle.law.specs.Lives.{World, Call, opening, outcome, moment, holds, delivers, delivered}
+use Rattle.law.specs.Safety.{Begins, Agree, Stays, Matches, Law}
+use Rattle.law.proofs.Seen.{Sight, Safe, Plays, Leading, Seen, first}
 use Rattle.law.proofs.Goals.{Fact, Makes, OpensWith, not_granted}
 use Rattle.law.proofs.Frames.{asked, unrefused}
 use Rattle.law.proofs.Quiet.{settles, present}

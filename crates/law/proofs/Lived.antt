@@ -1,5 +1,5 @@
 -- Every life of a floor is seen, moment by moment.
-use Rattle.std.proofs.Common.{◌≡◌, ℕ, zero, suc, ◌+◌, ◌<◌, ◌≤◌, Bool, true, false, cond, ltb, ◌⊎◌, List, [], ◌∷◌, ◌++◌, length, get_or, take, Some, None, Option, sym, refl, ap, ◌∙◌, subst, inl, inr, arith}
+use Rattle.std.proofs.Common.{◌≡◌, ℕ, zero, suc, ◌≤◌, Bool, true, false, cond, ltb, List, [], ◌∷◌, ◌++◌, take, Some, None, sym, refl, ap, ◌∙◌, subst, inl, inr, arith}
 use Rattle.std.specs.List.{slice_get}
 use Rattle.std.proofs.lemmas.List.{append-nil, append_assoc}
 use Rattle.service.specs.Meant.{Meant, Means}
@@ -9,11 +9,11 @@ use Rattle.entries.specs.declared.Entry.{Entry}
 use Rattle.machine.specs.declared.controller.Controller.{Controller}
 use Rattle.machine.specs.declared.fault.Fault.{Fault}
 use Rattle.machine.specs.declared.fault.Fault.TheVariants.{ShortTables, NotStarted, OutOfRange}
-use Rattle.machine.specs.Machine.{Here, After, Both, at, absent, long_tables, no_envelope, refuse, ask, unless, with_config, ordered, led, settled, settling, handed, handed_over}
-use Rattle.machine.specs.Changes.{Act, start, order, settle, hand, report, begin, lower, propose, abandon, stop, act, seat_at, at_seat, beginning, lowering, abandoning, report_of, read_report, begin_of, lower_of, abandon_of, stop_of, proposal, propose_of}
+use Rattle.machine.specs.Machine.{Here, After, Both, at, absent, long_tables, refuse, ask, unless, with_config, ordered, led, settled, settling, handed}
+use Rattle.machine.specs.Changes.{Act, start, order, settle, hand, report, begin, lower, propose, abandon, stop, act, seat_at, at_seat, beginning, lowering, abandoning, report_of, begin_of, lower_of, abandon_of, stop_of, proposal, propose_of}
 use Rattle.protocol.proofs.Later.{later_same, later_chain}
 use Rattle.protocol.proofs.BeginKeeps.{idle_inv}
-use Rattle.law.specs.Lives.{World, New, Call, opening, outcome, next, end, moment, delivers, delivered}
+use Rattle.law.specs.Lives.{World, New, Call, opening, outcome, next, moment, delivers, delivered}
 use Rattle.law.proofs.Seen.{Sight, Safe, Grown, Seen, first}
 use Rattle.law.proofs.Goals.{Fact}
 use Rattle.law.proofs.Frames.{asked, unrefused}

@@ -1,20 +1,18 @@
 -- A call that touches one controller, seen before and after.
-use Rattle.std.proofs.Common.{◌≡◌, ℕ, ◌+◌, ◌-◌, ◌*◌, ◌<◌, ◌≤◌, Bool, true, false, cond, eqb, ◌⊎◌, List, length, get_or, set, sym, refl, ap, ◌∙◌, subst, inl, inr, arith}
-use Rattle.std.proofs.lemmas.Bool.{cases_lt, cases_eq, cases_Bool}
+use Rattle.std.proofs.Common.{◌≡◌, ℕ, ◌-◌, ◌<◌, ◌≤◌, true, false, eqb, List, length, get_or, set, sym, refl, ap, ◌∙◌, subst, inl, inr, arith}
+use Rattle.std.proofs.lemmas.Bool.{cases_Bool}
 use Rattle.std.proofs.lemmas.List.{length-set}
 use Rattle.service.specs.Meant.{Meant}
-use Rattle.config.specs.Members.{member}
-use Rattle.config.specs.Configured.{Configured, no_row}
+use Rattle.config.specs.Configured.{Configured}
 use Rattle.machine.specs.declared.controller.Controller.{Controller}
 use Rattle.machine.specs.declared.envelope.Envelope.{Envelope}
-use Rattle.machine.specs.declared.fault.Fault.{Fault}
 use Rattle.machine.specs.declared.seat.Seat.{Seat}
 use Rattle.machine.specs.declared.seat.Seat.TheVariants.{Idle}
 use Rattle.machine.specs.Rows.{no_controller}
-use Rattle.machine.specs.Machine.{Here, After, at, stretch, opening_of, no_envelope, refuse, put_controller, put_seat, post, send}
+use Rattle.machine.specs.Machine.{Here, at, opening_of, no_envelope, put_controller, put_seat, post, send}
 use Rattle.protocol.proofs.Later.{later_same}
 use Rattle.law.proofs.Seen.{Sight, Safe, Grown, Says, Sits, Stands, Seen, first}
-use Rattle.law.proofs.Frames.{Alike, stands_later, bag_later, bag_more, seats_later, seats_set}
+use Rattle.law.proofs.Frames.{Alike, stands_later, bag_more, seats_set}
 use Rattle.law.proofs.Tables.{set_at}
 
 module _ (M : Meant) where

@@ -1,30 +1,25 @@
 -- Hand of NEWCONFIG and NEWSTATE.
-use Rattle.std.proofs.Common.{◌≡◌, ℕ, zero, suc, ◌+◌, ◌-◌, ◌*◌, ◌/◌, ◌%◌, ◌^◌, ◌<◌, ◌≤◌, Bool, true, false, cond, ◌&&◌, eqb, ltb, leb, ◌⊎◌, List, [], ◌∷◌, ◌++◌, length, get_or, take, drop, set, replicate, Some, None, Option, sym, refl, ap, ◌∙◌, subst, inl, inr, one-mul, arith}
-use Rattle.std.specs.List.{slice_get}
-use Rattle.std.proofs.lemmas.Bool.{cases_lt, cases_eq, cases_Bool, ltb-true, lt-ltb, eqb-true, eqb-false, eq-eqb, ne_eqb}
-use Rattle.std.proofs.lemmas.Bool.Decides.{nat_tests}
-use Rattle.std.proofs.lemmas.Nat.{pow_pos}
-use Rattle.std.proofs.lemmas.List.{length-set, get_or-set_same, get_or-set_other, get_or-replicate, get_or_past, length-replicate, take_all}
+use Rattle.std.proofs.Common.{◌≡◌, ℕ, ◌+◌, ◌-◌, ◌*◌, ◌/◌, ◌%◌, ◌^◌, ◌<◌, ◌≤◌, true, List, length, get_or, take, drop, set, replicate, Some, None, Option, sym, refl, ap, ◌∙◌, inl, inr, one-mul, arith}
+use Rattle.std.proofs.lemmas.Bool.{cases_lt, cases_eq, cases_Bool, lt-ltb, eqb-true, eq-eqb, ne_eqb}
+use Rattle.std.proofs.lemmas.List.{length-set, get_or-set_same, get_or-set_other, get_or-replicate, get_or_past, take_all}
 use Rattle.service.specs.Meant.{Meant, Means}
 use Rattle.config.specs.Members.{member, only, without}
 use Rattle.config.specs.Configured.{Configured}
 use Rattle.config.proofs.Sets.{only_le}
 use Rattle.entries.specs.declared.Entry.{Entry}
-use Rattle.machine.specs.declared.controller.Controller.{Controller}
 use Rattle.machine.specs.declared.envelope.Envelope.{Envelope}
-use Rattle.machine.specs.declared.envelope.Message.{Message}
 use Rattle.machine.specs.declared.envelope.Message.TheVariants.{Held, NewConfig, NewState}
-use Rattle.machine.specs.Rows.{leading, following, new_lead}
-use Rattle.machine.specs.Machine.{Here, After, at, stretch, opening_of, part, run, space, grant, put_controller, put_opening, put_list, put_speculative, send, over, opened_by, joined_by}
+use Rattle.machine.specs.Rows.{leading, following}
+use Rattle.machine.specs.Machine.{Here, at, stretch, opening_of, part, run, space, grant, put_controller, put_opening, put_list, put_speculative, over, opened_by, joined_by}
 use Rattle.protocol.proofs.View.{fold, open_epoch, join}
 use Rattle.protocol.proofs.Lists.{prefix_length}
 use Rattle.protocol.proofs.OpenKeeps.{open_keeps}
 use Rattle.protocol.proofs.JoinKeeps.{join_keeps}
 use Rattle.protocol.proofs.Later.{open_later, join_later}
-use Rattle.law.proofs.Seen.{Sight, Safe, Grown, Says, Plays, Leading, Stands, Seen, first}
-use Rattle.law.proofs.Tables.{length_part, length_over, part_over, part_over_apart, set_at}
-use Rattle.law.proofs.Frames.{Alike, bag_later, seats_later, plays_later}
-use Rattle.law.proofs.Moves.{Sized, seen_by, stands_set, seen_send}
+use Rattle.law.proofs.Seen.{Sight, Safe, Grown, Says, Seen, first}
+use Rattle.law.proofs.Tables.{length_part, length_over, part_over, part_over_apart}
+use Rattle.law.proofs.Frames.{bag_later, seats_later}
+use Rattle.law.proofs.Moves.{seen_by, stands_set, seen_send}
 use Rattle.law.proofs.Goals.{To}
 use Rattle.law.proofs.Quiet.{spaced, member_lt, shift_add, other_bits}
 use Rattle.law.proofs.Hands.{run_means, part_of_list}

@@ -1,36 +1,33 @@
 -- Order: the leader makes an entry.
-use Rattle.std.proofs.Common.{◌≡◌, ℕ, zero, suc, ◌+◌, ◌-◌, ◌*◌, ◌<◌, ◌≤◌, Bool, true, false, cond, eqb, ltb, ◌⊎◌, List, [], ◌∷◌, ◌++◌, length, get_or, set, Some, None, Ok, Err, Option, Result, sym, refl, ap, ◌∙◌, subst, inl, inr, arith}
+use Rattle.std.proofs.Common.{◌≡◌, ℕ, zero, suc, ◌+◌, ◌*◌, ◌<◌, Bool, true, false, cond, eqb, ltb, List, [], ◌∷◌, ◌++◌, length, get_or, Some, Ok, Err, Result, sym, refl, ap, ◌∙◌, subst, inl, inr, arith}
 use Rattle.std.specs.List.{slice_get}
-use Rattle.std.proofs.lemmas.Bool.{cases_lt, cases_eq, cases_Bool, ltb-true, eq-eqb, ne_eqb}
-use Rattle.std.proofs.lemmas.Bool.Decides.{nat_tests}
+use Rattle.std.proofs.lemmas.Bool.{cases_lt, cases_Bool, ltb-true, eq-eqb, ne_eqb}
 use Rattle.std.proofs.lemmas.List.{length-set, get_or-set_same, get_or-set_other, append-nil}
 use Rattle.service.specs.Meant.{Meant, Means}
 use Rattle.service.specs.declared.ServiceFault.{ServiceFault}
 use Rattle.service.specs.declared.Worked.{Worked}
-use Rattle.config.specs.Members.{member, without}
+use Rattle.config.specs.Members.{without}
 use Rattle.config.specs.Configured.{Configured}
 use Rattle.entries.specs.declared.Entry.{Entry}
 use Rattle.entries.specs.Lists.{holds}
-use Rattle.machine.specs.declared.controller.Controller.{Controller}
 use Rattle.machine.specs.declared.controller.Lead.{Lead}
 use Rattle.machine.specs.declared.controller.Role.{Role}
 use Rattle.machine.specs.declared.controller.Role.TheVariants.{Fresh, Follower, Leader}
 use Rattle.machine.specs.declared.envelope.Envelope.{Envelope}
 use Rattle.machine.specs.declared.envelope.Message.TheVariants.{Accept}
-use Rattle.machine.specs.declared.fault.Fault.{Fault}
 use Rattle.machine.specs.declared.fault.Fault.TheVariants.{ShortTables, WrongState, SerialTaken, ListFull, BagFull}
 use Rattle.machine.specs.Faults.{of_service}
 use Rattle.machine.specs.Rows.{longer}
-use Rattle.machine.specs.Machine.{Here, After, at, stretch, absent, space, long_tables, refuse, grant, ask, unless, put_controller, put_entry, put_speculative, send, entered, worked_out, led, ordered}
+use Rattle.machine.specs.Machine.{Here, at, stretch, absent, space, long_tables, refuse, grant, ask, unless, put_controller, put_entry, put_speculative, entered, worked_out, led, ordered}
 use Rattle.machine.specs.Changes.{order}
 use Rattle.protocol.proofs.View.{order as make}
 use Rattle.protocol.proofs.Lists.{push_tells, prefix_length}
 use Rattle.protocol.proofs.OrderKeeps.{order_keeps}
 use Rattle.protocol.proofs.Later.{order_later}
-use Rattle.law.proofs.Seen.{Sight, Safe, Grown, Plays, Leading, Stands, Seen, first}
+use Rattle.law.proofs.Seen.{Sight, Safe, Grown, Plays, Leading, Seen, first}
 use Rattle.law.proofs.Tables.{length_part, part_apart, part_push}
-use Rattle.law.proofs.Frames.{asked, unrefused, Alike, bag_later, seats_later, plays_later}
-use Rattle.law.proofs.Moves.{Sized, seen_by, stands_set, seen_send}
+use Rattle.law.proofs.Frames.{asked, unrefused, bag_later, seats_later, plays_later}
+use Rattle.law.proofs.Moves.{seen_by, stands_set, seen_send}
 use Rattle.law.proofs.Goals.{Makes, Goes, refused_goes}
 use Rattle.law.proofs.Quiet.{present, spaced}
 

@@ -1,7 +1,7 @@
 -- The calls that leave the view as it is: settle, report, begin, lower, abandon and stop.
-use Rattle.std.proofs.Common.{◌≡◌, ℕ, zero, suc, ◌+◌, ◌-◌, ◌*◌, ◌/◌, ◌%◌, ◌^◌, ◌<◌, ◌≤◌, min, Bool, true, false, cond, not, ◌&&◌, ◌||◌, eqb, ltb, leb, ◌⊎◌, List, [], length, get_or, set, Some, None, Ok, Err, Option, Result, sym, refl, ap, ◌∙◌, subst, inl, inr, one-mul, arith, pow-add}
+use Rattle.std.proofs.Common.{◌≡◌, ℕ, zero, suc, ◌+◌, ◌-◌, ◌*◌, ◌/◌, ◌%◌, ◌^◌, ◌<◌, ◌≤◌, min, Bool, true, false, cond, not, ◌&&◌, eqb, ltb, ◌⊎◌, List, [], length, get_or, Some, None, Ok, Err, Option, Result, sym, refl, ap, ◌∙◌, subst, inl, inr, one-mul, arith, pow-add}
 use native.Mathlib.Nat.{zero-div, add-mul-div_right}
-use Rattle.std.proofs.lemmas.Bool.{cases_lt, cases_eq, cases_Bool, and_parts, ltb-true, lt-ltb, eqb-true, eqb-false, eq-eqb}
+use Rattle.std.proofs.lemmas.Bool.{cases_lt, cases_eq, and_parts, ltb-true, lt-ltb, eqb-true, eqb-false, eq-eqb}
 use Rattle.std.proofs.lemmas.Bool.Decides.{nat_tests}
 use Rattle.std.proofs.lemmas.Nat.{shr-shr, pow_pos}
 use Rattle.std.proofs.lemmas.List.{append-nil}
@@ -22,16 +22,15 @@ use Rattle.machine.specs.declared.fault.Fault.{Fault}
 use Rattle.machine.specs.declared.fault.Fault.TheVariants.{ShortTables, NotStarted, OutOfRange, WrongState, NothingNew, BagFull, NotAddressed}
 use Rattle.machine.specs.declared.seat.Seat.{Seat}
 use Rattle.machine.specs.declared.seat.Seat.TheVariants.{Idle, Probing}
-use Rattle.machine.specs.Rows.{least, least_among, lesser, lesser_if, with_role, settled_at, stopped}
-use Rattle.machine.specs.Machine.{Here, After, at, absent, space, long_tables, refuse, grant, ask, unless, put_controller, put_seat, post, send, settled, settling, settled_with, in_range, no_envelope}
+use Rattle.machine.specs.Rows.{least, least_among, lesser_if, with_role, settled_at, stopped}
+use Rattle.machine.specs.Machine.{Here, After, at, absent, space, long_tables, grant, ask, unless, put_controller, put_seat, send, settled, settling, settled_with, in_range, no_envelope}
 use Rattle.machine.specs.Faults.{of_config}
 use Rattle.machine.specs.Changes.{Act, settle, report, begin, lower, abandon, stop, seat_at, at_seat, stop_of, abandon_of, abandoning, probe, probed_at, begun_at, beginning, begin_of, lowering, lower_of, heard, reported, read_report, report_of}
-use Rattle.protocol.proofs.View.{AllHeld, Nos, Fit}
-use Rattle.protocol.proofs.Later.{later_same}
-use Rattle.law.proofs.Seen.{Sight, Safe, Grown, Says, Sits, Plays, Leading, Stands, Seen, first}
+use Rattle.protocol.proofs.View.{AllHeld, Nos}
+use Rattle.law.proofs.Seen.{Sight, Safe, Says, Sits, Plays, Leading, Seen, first}
 use Rattle.law.proofs.Frames.{asked, unrefused}
 use Rattle.law.specs.Lives.{delivers}
-use Rattle.law.proofs.Goals.{To, Opened, Made, Fact, Goes, to_same, refused_goes}
+use Rattle.law.proofs.Goals.{Opened, Made, Goes, to_same, refused_goes}
 use Rattle.law.proofs.Tables.{length_part}
 use Rattle.law.proofs.Moves.{seen_controller, seen_send, seen_post, seen_seat}
 

@@ -1,21 +1,19 @@
 -- A started floor, its tables and its configurations, as a view of the protocol.
-use Rattle.std.proofs.Common.{◌≡◌, ℕ, ◌+◌, ◌-◌, ◌<◌, ◌≤◌, Bool, true, false, cond, List, length, get_or, Some, None, sym, refl, ap, ◌∙◌, arith}
+use Rattle.std.proofs.Common.{◌≡◌, ℕ, ◌-◌, ◌<◌, ◌≤◌, Bool, true, false, length, get_or, Some, None, sym, ◌∙◌, arith}
 use Rattle.std.specs.List.{slice_get}
 use Rattle.service.specs.Meant.{Meant}
 use Rattle.config.specs.Members.{member}
-use Rattle.config.specs.Configured.{Configured, Kept, no_row}
-use Rattle.entries.specs.declared.Entry.{Entry}
+use Rattle.config.specs.Configured.{Configured, no_row}
 use Rattle.machine.specs.declared.controller.Controller.{Controller}
 use Rattle.machine.specs.declared.controller.Lead.{Lead}
 use Rattle.machine.specs.declared.controller.Role.{Role}
 use Rattle.machine.specs.declared.controller.Role.TheVariants.{Fresh, Follower, Leader}
-use Rattle.machine.specs.declared.envelope.Envelope.{Envelope}
 use Rattle.machine.specs.declared.envelope.Message.{Message}
 use Rattle.machine.specs.declared.envelope.Message.TheVariants.{Commit, Accept, Held, Probe, Answer, NewConfig, NewState}
 use Rattle.machine.specs.declared.seat.Seat.{Seat}
 use Rattle.machine.specs.declared.seat.Seat.TheVariants.{Idle, Probing}
 use Rattle.machine.specs.Machine.{Here, at, stretch, opening_of, no_envelope}
-use Rattle.protocol.proofs.View.{View, Prefix, Nos, AllHeld, Fit}
+use Rattle.protocol.proofs.View.{View, Nos, AllHeld, Fit}
 use Rattle.protocol.proofs.Inv.{Inv}
 use Rattle.protocol.proofs.Later.{Later, nos_later, fit_later, held_later}
 

@@ -1,20 +1,16 @@
 -- Start and propose, which store a configuration; and where every call leads.
-use Rattle.std.proofs.Common.{◌≡◌, ℕ, zero, suc, ◌+◌, ◌-◌, ◌*◌, ◌<◌, ◌≤◌, Bool, true, false, cond, ◌&&◌, eqb, ltb, leb, ◌⊎◌, List, [], ◌∷◌, ◌++◌, map, length, get_or, take, drop, set, replicate, Some, None, Ok, Err, Option, Result, sym, refl, ap, ◌∙◌, subst, inl, inr, arith}
+use Rattle.std.proofs.Common.{◌≡◌, ℕ, zero, suc, ◌+◌, ◌-◌, ◌<◌, ◌≤◌, Bool, true, false, cond, eqb, ltb, leb, ◌⊎◌, List, [], ◌∷◌, ◌++◌, map, length, get_or, drop, replicate, Some, None, Ok, Err, Option, Result, sym, refl, ap, ◌∙◌, subst, inl, inr, arith}
 use Rattle.std.specs.List.{range_with_len}
-use Rattle.std.proofs.lemmas.Bool.{cases_lt, cases_eq, cases_Bool, ltb-true, lt-ltb, leb-true, and_parts, eqb-true, eq-eqb, ne_eqb}
+use Rattle.std.proofs.lemmas.Bool.{cases_lt, cases_eq, cases_Bool, ltb-true, leb-true, and_parts, eq-eqb, ne_eqb}
 use Rattle.std.proofs.lemmas.Bool.Decides.{nat_tests}
-use Rattle.std.proofs.lemmas.List.{length-append, append-nil, get_or_append_left, get_or-append_right, length-drop}
-use Rattle.service.specs.Meant.{Meant, Means}
-use Rattle.config.specs.Members.{member, only, other, lawful}
+use Rattle.std.proofs.lemmas.List.{length-append, append-nil, get_or_append_left, get_or-append_right}
+use Rattle.service.specs.Meant.{Meant}
+use Rattle.config.specs.Members.{member, only, other}
 use Rattle.config.specs.Made.{made}
-use Rattle.config.specs.Configured.{Configured, Kept, no_row, store_answer, stored}
+use Rattle.config.specs.Configured.{Configured, Kept, no_row, store_answer}
 use Rattle.config.specs.declared.row.ConfigRow.{ConfigRow}
 use Rattle.config.specs.declared.row.ConfigFault.{ConfigFault}
-use Rattle.entries.specs.declared.Entry.{Entry}
 use Rattle.machine.specs.declared.controller.Controller.{Controller}
-use Rattle.machine.specs.declared.controller.Lead.{Lead}
-use Rattle.machine.specs.declared.controller.Role.{Role}
-use Rattle.machine.specs.declared.controller.Role.TheVariants.{Fresh, Follower, Leader}
 use Rattle.machine.specs.declared.envelope.Envelope.{Envelope}
 use Rattle.machine.specs.declared.envelope.Message.TheVariants.{NewConfig}
 use Rattle.machine.specs.declared.fault.Fault.{Fault}
@@ -23,16 +19,16 @@ use Rattle.machine.specs.declared.seat.Seat.{Seat}
 use Rattle.machine.specs.declared.seat.Seat.TheVariants.{Idle, Probing}
 use Rattle.machine.specs.Faults.{of_config}
 use Rattle.machine.specs.Rows.{no_controller, joined, first_role, first_lead, all_joined}
-use Rattle.machine.specs.Machine.{Here, After, Both, at, stretch, opening_of, all_first, no_envelope, long_tables, refuse, grant, put_seat, post, with_config, opened, started_with, starting, started_by}
+use Rattle.machine.specs.Machine.{Here, After, Both, at, opening_of, all_first, long_tables, refuse, put_seat, post, with_config, opened, started_with, starting, started_by}
 use Rattle.machine.specs.Changes.{Act, start, propose, seat_at, proposed_with, proposing, proposal, propose_of}
 use Rattle.protocol.proofs.View.{begin as begun, store, Fit}
 use Rattle.protocol.proofs.BeginKeeps.{Idle as Nothing, begin_keeps}
 use Rattle.protocol.proofs.StoreKeeps.{store_keeps}
 use Rattle.protocol.proofs.Later.{begin_later, store_later, later_same}
-use Rattle.law.specs.Lives.{New, fresh, delivers}
-use Rattle.law.proofs.Seen.{Sight, Safe, Grown, Says, Sits, Probes, Plays, Leading, Stands, Seen, first}
-use Rattle.law.proofs.Goals.{To, Fact, Goes, fact_refused}
-use Rattle.law.proofs.Frames.{Alike, stands_later, bag_later, seats_later}
+use Rattle.law.specs.Lives.{New, fresh}
+use Rattle.law.proofs.Seen.{Sight, Safe, Grown, Says, Sits, Plays, Stands, Seen, first}
+use Rattle.law.proofs.Goals.{Fact, Goes, fact_refused}
+use Rattle.law.proofs.Frames.{stands_later, bag_later, seats_later}
 use Rattle.law.proofs.Moves.{seen_seat, seen_post}
 use Rattle.law.proofs.Quiet.{added, empty_set}
 

@@ -1,7 +1,7 @@
 -- A table of lists, each in its own stretch of 64 places.
-use Rattle.std.proofs.Common.{◌≡◌, ℕ, ◌+◌, ◌-◌, ◌*◌, ◌<◌, ◌≤◌, min, true, ◌≢◌, ◌⊎◌, List, [], ◌∷◌, ◌++◌, length, get_or, take, drop, set, sym, refl, ap, ◌∙◌, inl, inr, arith}
-use Rattle.std.proofs.lemmas.List.{same_lists, length-set, length-take-le, length-take, length-drop, length-append, get_or-take, get_or-drop, get_or-set_same, get_or-set_other, take_more_set, drop-set-add, places, get_or_append_left, get_or-append_right}
-use Rattle.std.proofs.lemmas.Bool.{cases_lt, cases_eq}
+use Rattle.std.proofs.Common.{◌≡◌, ℕ, ◌+◌, ◌-◌, ◌<◌, ◌≤◌, ◌≢◌, ◌⊎◌, List, [], ◌∷◌, ◌++◌, length, get_or, take, drop, set, sym, refl, ap, ◌∙◌, inl, inr, arith}
+use Rattle.std.proofs.lemmas.List.{same_lists, length-set, length-take-le, length-drop, length-append, get_or-take, get_or-drop, get_or-set_same, get_or-set_other, take_more_set, drop-set-add, get_or_append_left, get_or-append_right}
+use Rattle.std.proofs.lemmas.Bool.{cases_eq}
 use Rattle.machine.specs.Machine.{over}
 
 module _ {A : Type 0} where

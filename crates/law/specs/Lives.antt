@@ -1,6 +1,5 @@
 -- Lives of a floor: any calls with any arguments, one after the other, from a new floor.
-use Rattle.std.specs.Prelude.{◌≡◌, ℕ, zero, suc, ◌+◌, Bool, true, false, cond, List, [], ◌∷◌, ◌++◌, take, replicate, Some, None, Ok, Err, Option, Result, ◌==◌, slice_index_or}
-use Rattle.std.specs.List.{slice_get}
+use Rattle.std.specs.Prelude.{◌≡◌, ℕ, Bool, true, false, cond, List, [], ◌∷◌, ◌++◌, take, replicate, Ok, Err, Result, ◌==◌, slice_index_or}
 use Rattle.service.specs.Meant.{Meant}
 use Rattle.config.specs.Configured.{Configured}
 use Rattle.entries.specs.declared.Entry.{Entry}
@@ -10,7 +9,7 @@ use Rattle.machine.specs.declared.envelope.Message.{Message}
 use Rattle.machine.specs.declared.envelope.Message.TheVariants.{Commit, Accept, Held, Probe, Answer, NewConfig, NewState}
 use Rattle.machine.specs.declared.fault.Fault.{Fault}
 use Rattle.machine.specs.declared.seat.Seat.TheVariants.{Idle}
-use Rattle.machine.specs.Machine.{Here, Both, at, stretch, part, run, no_envelope}
+use Rattle.machine.specs.Machine.{Here, Both, at, stretch, part, no_envelope}
 use Rattle.machine.specs.Changes.{Act, start, order, settle, hand, report, begin, lower, propose, abandon, stop, act}
 
 -- a controller that is running and fresh

@@ -7,7 +7,7 @@ use Rattle.entries.specs.declared.Entry.{Entry}
 use Rattle.machine.specs.declared.envelope.Message.TheVariants.{NewConfig}
 use Rattle.machine.specs.Machine.{at, run}
 use Rattle.machine.specs.Changes.{order, settle, hand}
-use Rattle.law.specs.Lives.{World, New, Call, outcome, next, moment, holds, letter, delivers, delivered}
+use Rattle.law.specs.Lives.{World, New, Call, outcome, moment, holds, letter, delivers, delivered}
 
 -- xs is the beginning of ys
 abbrev pub Begins : {A : Type 0} → List A → List A → Type 0

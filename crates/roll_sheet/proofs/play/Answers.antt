@@ -1,4 +1,4 @@
-use Rattle.std.proofs.Common.{◌≡◌, true, List, IfOk, ap, subst}
+use Rattle.std.proofs.Common.{true, List, IfOk, ap, subst}
 use Rattle.roll.specs.declared.RollUpdate.TheVariants.{Load}
 use Rattle.config.specs.declared.row.ConfigRow.{ConfigRow}
 use Rattle.config.specs.Configured.{Configured}
