@@ -6,7 +6,6 @@ use Rattle.machine.specs.declared.controller.Controller.{Controller}
 use Rattle.config.specs.Members.{member}
 use Rattle.machine.specs.Rows.{no_controller, joined}
 use Rattle.floor.specs.Lawful.{Sound, Lawful, Short}
-use Rattle.floor.specs.New.{fresh}
 
 -- what stands at j after a write at i
 pub set_tells : {X : Type 0} (xs : List X) (i : ℕ) (x : X) (j : ℕ) (d : X) → (get_or (set xs i x) j d ≡ x) ⊎ (get_or (set xs i x) j d ≡ get_or xs j d)
@@ -31,9 +30,9 @@ sound_joined m l c k s = cond_both {A = Controller} (member m c) _ k Sound (λ _
 pub short_set : (ls : List ℕ) (i n : ℕ) → Short ls → n ≤ 64 → Short (set ls i n)
 short_set ls i n h s k b = elim (set_tells ls i n k 0) [ inl p ↦ rw p s | inr p ↦ rw p (h k b) ]
 
--- a new floor is lawful
-pub lawful_new : Lawful (replicate 8 fresh)
-lawful_new c h = subst Sound (sym (get_or-replicate 8 c fresh no_controller h)) (omega arith, omega arith)
+-- a floor of eight sound controllers that are alike is lawful
+pub lawful_new : (k : Controller) → Sound k → Lawful (replicate 8 k)
+lawful_new k s c h = subst Sound (sym (get_or-replicate 8 c k no_controller h)) s
 
 pub short_new : Short (replicate 32 0)
 short_new k h = subst (λ (n : ℕ). n ≤ 64) (sym (get_or-replicate 32 k 0 0 h)) (omega arith)

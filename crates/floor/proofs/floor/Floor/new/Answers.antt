@@ -3,4 +3,4 @@ use Rattle.floor.proofs.Lawfuls.{lawful_new, short_new}
 use Rattle.floor.proofs.floor.Floor.new.Goals as goal
 
 pub invariant_of-result : goal.invariant_of-result
-invariant_of-result c = record { sized = refl; lawful = lawful_new; few = omega arith; seated = refl; counted = refl; short = short_new }
+invariant_of-result c = record { sized = refl; lawful = lawful_new _ (omega arith, omega arith); few = omega arith; seated = refl; counted = refl; short = short_new }
