@@ -1,5 +1,5 @@
 -- The carousel as a service.
-use Rattle.std.specs.Prelude.{ℕ, cond, List, Ok, Err, Result, nat_lt}
+use Rattle.std.specs.Prelude.{ℕ, if◌then◌else◌, List, Ok, Err, Result, nat_lt}
 use Rattle.service.specs.declared.ServiceFault.{ServiceFault}
 use Rattle.service.specs.declared.Worked.{Worked}
 use Rattle.carousel.specs.declared.CarouselRow.{CarouselRow}
@@ -17,12 +17,12 @@ number NoTool = record { number = 1 }
 
 -- a row means its tools, station by station; one that is no carousel means the first carousel
 abbrev pub mean : CarouselRow → List ℕ
-mean r = cond (is_carousel r.tools) r.tools straight
+mean r = if is_carousel r.tools then r.tools else straight
 
 -- a fetch of a tool below 8 replies its station, which is to be exchanged with station 0
 abbrev pub worked : List ℕ → CarouselCommand → Result (Worked CarouselUpdate) ServiceFault
 worked xs (Fetch t) =
-    cond (nat_lt t 8) (Ok (record { reply = station xs t; update = Swap (station xs t) })) (Err (number NoTool))
+    if nat_lt t 8 then Ok (record { reply = station xs t; update = Swap (station xs t) }) else Err (number NoTool)
 
 abbrev pub applied : List ℕ → CarouselUpdate → List ℕ
 applied xs (Swap s) = exchanged xs s

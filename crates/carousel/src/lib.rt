@@ -1,3 +1,5 @@
+//! A tool carousel as a service: a tool is fetched by an exchange of its station with station 0.
+
 #![tactic(auto)]
 
 ghost use Rattle.std.specs.Prelude.{◌≡◌, ℕ, List};
@@ -11,48 +13,50 @@ use stations::Carousel;
 
 pub mod stations;
 
-// A carousel as it lies in a table: `tools[s]` is the tool in station s, and nothing more is known.
-#[derive(Clone, Copy)]
+/// A carousel as it lies in a table: `tools[s]` is the tool in station s, and nothing more is known.
+#[derive(Clone, Copy, Debug, PartialEq, Eq)]
 pub struct CarouselRow {
     pub tools: [u8; 8],
 }
 
-#[derive(Clone, Copy)]
+/// What may be asked of a carousel.
+#[derive(Clone, Copy, Debug, PartialEq, Eq)]
 pub enum CarouselCommand {
-    // bring this tool to station 0
+    /// Bring this tool, 0 to 7, to station 0.
     Fetch(u32),
 }
 
-#[derive(Clone, Copy)]
+/// How a carousel changes.
+#[derive(Clone, Copy, Debug, PartialEq, Eq)]
 pub enum CarouselUpdate {
-    // exchange station 0 with this one
+    /// Exchange station 0 with this one.
     Swap(u32),
 }
 
-#[derive(Clone, Copy)]
+/// Why a carousel refuses, with the number of the refusal.
+#[derive(Clone, Copy, Debug, PartialEq, Eq)]
 pub enum CarouselFault {
-    NoTool,
+    /// There is no tool of this number.
+    NoTool = 1,
 }
 
+// By hand, as each service numbers its own refusals and clauses name what `?` makes of them.
 impl From<CarouselFault> for ServiceFault {
     ghost from_gives = { λ f r. r ≡ number f };
 
     fn from(fault: CarouselFault) -> ServiceFault {
-        match fault {
-            CarouselFault::NoTool => ServiceFault { number: 1 },
+        ServiceFault {
+            number: fault as u32,
         }
     }
 }
 
 impl CarouselRow {
-    // The carousel that the row means: its own, or the first where it holds none.
+    /// The carousel that the row means: its own, or the first where it holds none.
     pub fn carousel(&self) -> Carousel
         ensures { result.tools ≡ row_mean self.now }
     {
-        match Carousel::from_row(*self) {
-            Some(carousel) => carousel,
-            None => Carousel::first(),
-        }
+        Carousel::try_from(*self).unwrap_or_else(|_| Carousel::first())
     }
 }
 
@@ -76,24 +80,25 @@ impl Service for CarouselRow {
     ghost means = { λ s. elim [ Swap k ↦ mean_exchanged s k ] };
 
     fn first() -> CarouselRow {
-        Carousel::first().row()
+        Carousel::first().into()
     }
 
     fn work(&self, command: CarouselCommand) -> Result<Worked<CarouselUpdate>, ServiceFault> {
         let CarouselCommand::Fetch(tool) = command;
-        match self.carousel().station_of(tool) {
-            Some(station) => Ok(Worked {
-                reply: station,
-                update: CarouselUpdate::Swap(station),
-            }),
-            None => Err(CarouselFault::NoTool.into()),
-        }
+        let station = self
+            .carousel()
+            .station_of(tool)
+            .ok_or(CarouselFault::NoTool)?;
+        Ok(Worked {
+            reply: station,
+            update: CarouselUpdate::Swap(station),
+        })
     }
 
     fn apply(self, update: CarouselUpdate) -> CarouselRow {
         let CarouselUpdate::Swap(station) = update;
         let mut carousel = self.carousel();
         carousel.exchange(station);
-        carousel.row()
+        carousel.into()
     }
 }

@@ -1,15 +1,19 @@
+//! Plays a run sheet with the carousel on the triple.
+
 #![tactic(auto)]
 
-use carousel_sheet::play;
-use program::{Trouble, ended, read_sheet, write_output};
+use program::{Sheets, Trouble, run};
+use sheet::output::Output;
+use std::alloc::{AllocError, Global};
 
-fn run(rt: &HostRuntime) -> Result<(), Trouble> {
-    let sheet = read_sheet(rt)?;
-    let output = play(rt.alloc(), &sheet)?;
-    write_output(rt, sheet.len(), &output)
+struct CarouselSheets;
+
+impl Sheets for CarouselSheets {
+    fn play(heap: Global, sheet: &[u8]) -> Result<Output, AllocError> {
+        carousel_sheet::play(heap, sheet)
+    }
 }
 
-// Plays a run sheet with the carousel on the triple.
 fn main(rt: HostRuntime) -> Result<(), Trouble> {
-    ended(&rt, run(&rt))
+    run::<CarouselSheets>(&rt)
 }

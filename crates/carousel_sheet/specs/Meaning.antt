@@ -1,5 +1,5 @@
 -- The carousel and its verb as values, and the floor on which its sheets begin.
-use Rattle.std.specs.Prelude.{ℕ, true, cond, List, [], Some, None, Option, ◌==◌}
+use Rattle.std.specs.Prelude.{ℕ, true, if◌then◌else◌, List, [], Some, None, Option, ◌==◌}
 use Rattle.service.specs.Meant.{Meant}
 use Rattle.config.specs.Configured.{Configured}
 use Rattle.carousel.specs.declared.CarouselRow.{CarouselRow}
@@ -30,7 +30,7 @@ carousel = record {
 
 -- t fetches
 abbrev pub known : ℕ → Option CarouselVerb
-known b = cond (b == 116) (Some verb.Fetch) None
+known b = if b == 116 then Some verb.Fetch else None
 
 abbrev pub says : CarouselVerb → ℕ → CarouselCommand
 says verb.Fetch n = Fetch n

@@ -1,3 +1,4 @@
+//! Sheets for the carousel: its letter, and its floor with a triple of configurations.
 #![tactic(auto)]
 
 ghost use Rattle.std.specs.Prelude.{ℕ, IfOk};
@@ -10,8 +11,8 @@ use sheet::verb::Verb;
 use std::alloc::{AllocError, Global};
 use triple::table::Triple;
 
-// What an order's letter asks of the carousel.
-#[derive(Clone, Copy)]
+/// What an order's letter asks of the carousel.
+#[derive(Clone, Copy, Debug, PartialEq, Eq)]
 pub enum CarouselVerb {
     Fetch,
 }
@@ -23,6 +24,7 @@ impl Verb for CarouselVerb {
 
     ghost says = { said_by };
 
+    // The match is the table of letters.
     fn of_letter(letter: char) -> Option<CarouselVerb> {
         match letter {
             't' => Some(CarouselVerb::Fetch),
@@ -37,7 +39,8 @@ impl Verb for CarouselVerb {
     }
 }
 
-// Plays a sheet on a new floor, with the carousel as service and a triple of configurations.
+// Thin, so that a program names one function and no service.
+/// Plays a sheet on a new floor, with the carousel as service and a triple of configurations.
 pub fn play(heap: Global, sheet: &[u8]) -> Result<Output, AllocError>
     ensures { IfOk result (λ o. Gives carousel_meant verbs new_world sheet.now o) }
 {

@@ -1,5 +1,5 @@
 -- What a configuration service means.
-use Rattle.std.specs.Prelude.{◌≡◌, ℕ, ◌+◌, ◌-◌, ◌<◌, ◌≤◌, Bool, true, cond, List, [], ◌∷◌, ◌++◌, length, get_or, Ok, Err, Result, ◌==◌, nat_le, nat_lt, slice_index_or}
+use Rattle.std.specs.Prelude.{◌≡◌, ℕ, ◌+◌, ◌-◌, ◌<◌, ◌≤◌, Bool, true, cond, if◌then◌else◌, ◌&&◌, List, [], ◌∷◌, ◌++◌, length, get_or, Ok, Err, Result, ◌==◌, nat_le, nat_lt, slice_index_or}
 use Rattle.config.specs.declared.row.ConfigRow.{ConfigRow}
 use Rattle.config.specs.declared.row.ConfigFault.{ConfigFault}
 use Rattle.config.specs.declared.row.ConfigFault.TheVariants.{Closed, Stale, Full, NoEpoch}
@@ -33,10 +33,13 @@ abbrev pub configuration : Configured → ℕ → Result ConfigRow ConfigFault
 configuration s e =
     cond s.is_open (cond (nat_le 1 e) (cond (nat_le e (length s.all)) (Ok (slice_index_or s.all (e - 1) no_row)) (Err NoEpoch)) (Err NoEpoch)) (Err Closed)
 
+-- the epoch that a store with this expected last epoch makes after n, with limit l, or the refusal
+abbrev pub epoch_after : ℕ → ℕ → ℕ → Result ℕ ConfigFault
+epoch_after n e l = cond (e == n) (cond (nat_lt n l) (Ok (n + 1)) (Err Full)) (Err Stale)
+
 -- whether a store with this expected last epoch is granted: the epoch that it makes, or the refusal
 abbrev pub store_answer : Configured → ℕ → Result ℕ ConfigFault
-store_answer s e =
-    cond s.is_open (cond (e == length s.all) (cond (nat_lt (length s.all) s.limit) (Ok (length s.all + 1)) (Err Full)) (Err Stale)) (Err Closed)
+store_answer s e = cond s.is_open (epoch_after (length s.all) e s.limit) (Err Closed)
 
 -- the service after a store: one configuration more where it was granted, else as it was
 abbrev pub stored_by : Configured → ConfigRow → Result ℕ ConfigFault → Configured
@@ -50,6 +53,13 @@ stored s e k = stored_by s k (store_answer s e)
 abbrev pub rowed : Result Configuration ConfigFault → Result ConfigRow ConfigFault
 rowed (Ok k) = Ok (row_of k)
 rowed (Err f) = Err f
+
+-- the configuration of an epoch among all, where its row is lawful
+abbrev pub lawful_at : List ConfigRow → ℕ → Result ConfigRow ConfigFault
+lawful_at all e =
+    if nat_le 1 e && nat_le e (length all) && lawful (slice_index_or all (e - 1) no_row).members (slice_index_or all (e - 1) no_row).leader
+    then Ok (slice_index_or all (e - 1) no_row)
+    else Err NoEpoch
 
 -- what always holds of a configuration service: a limit of 1 to 32, which the list never passes, and lawful configurations
 pub record Kept (s : Configured) : Type 0 where

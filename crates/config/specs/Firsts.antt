@@ -1,4 +1,4 @@
--- The first n rows of a table of configurations.
+-- Tables of configurations that are all lawful.
 use Rattle.std.specs.Prelude.{◌≡◌, ℕ, ◌+◌, ◌<◌, ◌≤◌, Bool, true, List, length, take, slice_set}
 use Rattle.std.proofs.Common.{arith, inl, inr}
 use Rattle.std.proofs.lemmas.Bool.{cases_eq}
@@ -8,7 +8,11 @@ use Rattle.config.specs.Members.{lawful}
 use Rattle.config.specs.Configured.{Kept, no_row}
 use Rattle.config.specs.Rows.{Lawful}
 
--- what a service keeps whose list is the first n rows of a table of lawful ones
+-- what a service keeps whose list is a table of lawful ones
+pub kept_all : (rows : List ConfigRow) (o : Bool) → length rows ≤ 32 → Lawful rows (length rows) → Kept (record { all = rows; limit = 32; is_open = o })
+kept_all rows o h l = record { some = omega arith; most = omega arith; fits = h; lawfully = l }
+
+-- the same where it is the first n rows of a table of lawful ones
 pub kept_firsts : (rows : List ConfigRow) (n : ℕ) (o : Bool) → n ≤ 32 → Lawful rows n → Kept (record { all = take n rows; limit = 32; is_open = o })
 kept_firsts rows n o h l =
     let m = length-take n rows in

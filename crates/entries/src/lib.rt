@@ -1,37 +1,34 @@
+//! Entries, and lists of them in lent slices.
 #![tactic(auto)]
 
 ghost use Rattle.std.specs.Prelude.{◌≡◌, ℕ, ◌+◌, ◌≤◌, length, if◌then◌else◌, nat_lt, slice_set};
 ghost use Rattle.entries.specs.Lists.{holds};
 
-// An update with the epoch in which it was made and the serial that its order gave.
-#[derive(Clone, Copy)]
+/// An update with the epoch in which it was made and the serial that its order gave.
+#[derive(Clone, Copy, Debug, PartialEq, Eq)]
 pub struct Entry<U> {
     pub epoch: u32,
     pub serial: u32,
     pub update: U,
 }
 
-// A list of entries: the rows of a lent slice, to be read.
-#[derive(Clone, Copy)]
+/// A list of entries: the rows of a lent slice, to be read.
+#[derive(Clone, Copy, Debug, PartialEq, Eq)]
 pub struct Entries<'a, U> {
     pub rows: &'a [Entry<U>],
 }
 
 impl<'a, U: Copy> Entries<'a, U> {
-    // Whether an entry of the list has the serial.
+    /// Whether an entry of the list has the serial.
     pub fn contains(&self, serial: u32) -> bool
         ensures { result ≡ holds self.now.rows.now serial }
     {
-        for e in self.rows {
-            if e.serial == serial {
-                return true;
-            }
-        }
-        false
+        self.rows.iter().any(|e| e.serial == serial)
     }
 }
 
-// A list of entries that may grow: the first `len` rows of a lent slice.
+/// A list of entries that may grow: the first `len` rows of a lent slice.
+// A length beside a buffer, since the slice is lent and its rows past the list belong to nobody else.
 #[derive(Drop)]
 pub struct EntriesMut<'a, U> {
     pub rows: &'a mut [Entry<U>],
@@ -40,7 +37,8 @@ pub struct EntriesMut<'a, U> {
 }
 
 impl<'a, U: Copy> EntriesMut<'a, U> {
-    // Appends the entry, and says whether there was room for it.
+    /// Appends the entry, and says whether there was room for it.
+    // A bool, since room is the whole answer.
     pub fn push(&mut self, entry: Entry<U>) -> bool
         ensures same { self.new.rows.ghost_name ≡ self.old.rows.ghost_name }
         ensures room { result ≡ nat_lt self.old.len (length self.old.rows.now) }

@@ -1,4 +1,2 @@
 pub mod Lawfuls
-pub mod Orders
-pub mod States
 pub mod Stretches

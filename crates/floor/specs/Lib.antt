@@ -1,4 +1,7 @@
+pub mod Asked
 pub mod Ground
 pub mod Lawful
+pub mod Lists
 pub mod New
 pub mod Seen
+pub mod Turn

@@ -1,18 +1,20 @@
 -- What a call leaves as it was is seen as it was.
-use Rattle.std.proofs.Common.{◌≡◌, ℕ, ◌+◌, ◌<◌, Bool, true, false, length, get_or, set, Some, None, Option, sym, refl, ap, ◌∙◌, inl, inr, arith}
+use Rattle.std.proofs.Common.{◌≡◌, ℕ, ◌+◌, ◌*◌, ◌<◌, Bool, true, false, List, length, get_or, set, Some, None, Option, sym, refl, ap, ◌∙◌, inl, inr, arith}
 use Rattle.std.proofs.lemmas.Bool.{cases_lt}
 use Rattle.service.specs.Meant.{Meant}
 use Rattle.config.specs.Configured.{Configured}
+use Rattle.entries.specs.declared.Entry.{Entry}
 use Rattle.machine.specs.declared.controller.Controller.{Controller}
 use Rattle.machine.specs.declared.controller.Role.{Role}
 use Rattle.machine.specs.declared.controller.Role.TheVariants.{Fresh, Follower, Leader}
 use Rattle.machine.specs.declared.envelope.Envelope.{Envelope}
 use Rattle.machine.specs.declared.fault.Fault.{Fault}
+use Rattle.machine.specs.declared.fault.Fault.TheVariants.{ShortTables, NotStarted}
 use Rattle.machine.specs.declared.seat.Seat.{Seat}
 use Rattle.machine.specs.declared.seat.Seat.TheVariants.{Idle}
-use Rattle.machine.specs.Machine.{Here, After, stretch, no_envelope, refuse, ask, unless}
+use Rattle.machine.specs.Machine.{Here, After, at, stretch, absent, long_tables, no_envelope, refuse, ask, unless}
 use Rattle.law.proofs.Seen.{Sight, Safe, Grown, Says, Sits, Plays, Stands, Seen, says_later, sits_later}
-use Rattle.law.proofs.Tables.{set_at}
+use Rattle.law.proofs.Tables.{set_at, length_part}
 
 module _ (M : Meant) where
   -- a question is answered no, or yes
@@ -23,6 +25,25 @@ module _ (M : Meant) where
   pub unrefused : (P : After M → Type 0) (t : Here M) (o : Option Fault) (d : After M) → ((g : Fault) → P (refuse M t g)) → (o ≡ None → P d) → P (unless M t o d)
   unrefused P t None d no_case yes_case = yes_case refl
   unrefused P t (Some f) d no_case yes_case = no_case f
+
+  -- past the first questions: are the tables long enough, is the floor started, and is there such a controller, running?
+  pub past_start : (P : After M → Type 0) (t : Here M) (d : After M) → ((g : Fault) → P (refuse M t g)) → (t.started ≡ true → P d) → P (ask M t (long_tables M t) ShortTables (ask M t t.started NotStarted d))
+  past_start P t d no_case yes_case =
+      asked P t (long_tables M t) ShortTables (ask M t t.started NotStarted d) no_case λ _. asked P t t.started NotStarted d no_case yes_case
+
+  pub past_absence : (P : After M → Type 0) (t : Here M) (c : ℕ) (d : After M) → ((g : Fault) → P (refuse M t g)) → (absent t.started t.controllers c ≡ None → P d)
+      → P (ask M t (long_tables M t) ShortTables (unless M t (absent t.started t.controllers c) d))
+  past_absence P t c d no_case yes_case =
+      asked P t (long_tables M t) ShortTables (unless M t (absent t.started t.controllers c) d) no_case λ _.
+      unrefused P t (absent t.started t.controllers c) d no_case yes_case
+
+  -- a controller's list is as long as the controller says
+  pub length_list : (t : Here M) (s : Configured) (v : Sight M) (c : ℕ) → Seen M t s v → c < 8 → (at M t c).length ≡ length (v.list c)
+  length_list t s v c z b =
+      let p = z.stands c b in
+      let big = z.entries in
+      let room = p.room in
+      sym (length_part t.entries (c * 64) (at M t c).length (omega arith)) ∙ ap length p.list
 
   -- a controller that stays in its epoch finds its configuration as it was
   pub home_leader : (v w : Sight M) (d : ℕ) → Safe M v → Grown M v w → w.epoch d ≡ v.epoch d → 0 < v.epoch d → w.leader (w.epoch d) ≡ v.leader (v.epoch d)
@@ -41,31 +62,49 @@ module _ (M : Meant) where
     told = λ f h q. let p = a.told f h q in let r = l.held (v.epoch d) f in rw e (omega arith);
   }
 
-  -- the parts of a view and of the tables that belong to one controller
-  pub record Alike (t u : Here M) (v w : Sight M) (d n : ℕ) : Type 0 where
-    pub entries : stretch u.entries d n ≡ stretch t.entries d n
-    pub committed : get_or u.committed d M.opening ≡ get_or t.committed d M.opening
-    pub speculative : get_or u.speculative d M.opening ≡ get_or t.speculative d M.opening
-    pub epoch : w.epoch d ≡ v.epoch d
-    pub promise : w.promise d ≡ v.promise d
-    pub list : w.list d ≡ v.list d
-    pub handed : w.handed d ≡ v.handed d
-    pub meant : w.committed d ≡ v.committed d
-    pub guessed : w.speculative d ≡ v.speculative d
+  -- the parts of a view and of the tables that belong to one controller, with its first n entries
+  pub record Part : Type 0 where
+    pub entries : List (Entry M.Update)
+    pub committed : M.Row
+    pub speculative : M.Row
+    pub epoch : ℕ
+    pub promise : ℕ
+    pub list : List (Entry M.Update)
+    pub handed : List (Entry M.Update)
+    pub meant : M.Meaning
+    pub guessed : M.Meaning
+
+  abbrev pub part_of : Here M → Sight M → ℕ → ℕ → Part
+  part_of t v d n = record {
+    entries = stretch t.entries d n;
+    committed = get_or t.committed d M.opening;
+    speculative = get_or t.speculative d M.opening;
+    epoch = v.epoch d;
+    promise = v.promise d;
+    list = v.list d;
+    handed = v.handed d;
+    meant = v.committed d;
+    guessed = v.speculative d;
+  }
+
+  abbrev pub Alike : Here M → Here M → Sight M → Sight M → ℕ → ℕ → Type 0
+  Alike t u v w d n = part_of u w d n ≡ part_of t v d n
 
   pub stands_later : (t u : Here M) (v w : Sight M) (d : ℕ) (k : Controller) → Safe M v → Grown M v w → Alike t u v w d k.length → Stands M t v d k → Stands M u w d k
-  stands_later t u v w d k i l a s = record {
-    epoch = s.epoch ∙ sym a.epoch;
-    promise = s.promise ∙ sym a.promise;
-    room = s.room;
-    list = a.entries ∙ s.list ∙ sym a.list;
-    delivered = s.delivered ∙ ap length (sym a.handed);
-    committed = ap M.mean a.committed ∙ s.committed ∙ sym a.meant;
-    speculative = λ q z.
-        let z' : 0 < v.epoch d = rw a.epoch at z in
-        ap M.mean a.speculative ∙ s.speculative (sym (home_leader v w d i l a.epoch z') ∙ q) z' ∙ sym a.guessed;
-    role = plays_later v w d i l a.epoch k.role s.role;
-  }
+  stands_later t u v w d k i l a s =
+      let epoch : w.epoch d ≡ v.epoch d = ap (λ (x : Part). x.epoch) a in
+      record {
+        epoch = s.epoch ∙ sym epoch;
+        promise = s.promise ∙ sym (ap (λ (x : Part). x.promise) a);
+        room = s.room;
+        list = ap (λ (x : Part). x.entries) a ∙ s.list ∙ sym (ap (λ (x : Part). x.list) a);
+        delivered = s.delivered ∙ ap (λ (x : Part). length x.handed) (sym a);
+        committed = ap (λ (x : Part). M.mean x.committed) a ∙ s.committed ∙ sym (ap (λ (x : Part). x.meant) a);
+        speculative = λ q z.
+            let z' : 0 < v.epoch d = rw epoch at z in
+            ap (λ (x : Part). M.mean x.speculative) a ∙ s.speculative (sym (home_leader v w d i l epoch z') ∙ q) z' ∙ sym (ap (λ (x : Part). x.guessed) a);
+        role = plays_later v w d i l epoch k.role s.role;
+      }
 
   -- the bag, with nothing or one envelope more
   pub bag_later : (t : Here M) (s : Configured) (v w : Sight M) → Safe M v → Grown M v w → Seen M t s v → (i : ℕ) → i < t.sent

@@ -1,5 +1,5 @@
 -- Where a call leads: a safe view of the floor after it, and what the call did.
-use Rattle.std.proofs.Common.{◌≡◌, ℕ, ◌<◌, ◌≤◌, true, [], ◌∷◌, ◌++◌, length, Some, Ok, Err, Result, sym, refl, arith}
+use Rattle.std.proofs.Common.{◌≡◌, ℕ, ◌<◌, ◌≤◌, true, [], ◌∷◌, ◌++◌, length, Some, Ok, Err, Result, sym, refl}
 use Rattle.std.specs.List.{slice_get}
 use Rattle.std.proofs.lemmas.List.{append-nil}
 use Rattle.service.specs.Meant.{Meant}
@@ -8,8 +8,9 @@ use Rattle.entries.specs.declared.Entry.{Entry}
 use Rattle.machine.specs.declared.envelope.Message.TheVariants.{NewConfig}
 use Rattle.machine.specs.declared.fault.Fault.{Fault}
 use Rattle.machine.specs.Machine.{Here, After, refuse}
-use Rattle.machine.specs.Changes.{Act, start, order, settle, hand, report, begin, lower, propose, abandon, stop}
+use Rattle.machine.specs.Changes.{Act, order, settle, hand}
 use Rattle.law.specs.Lives.{letter, delivers}
+use Rattle.protocol.proofs.View.{AllHeld}
 use Rattle.protocol.proofs.Later.{later_same}
 use Rattle.law.proofs.Seen.{Sight, Safe, Grown, Seen, first}
 
@@ -28,16 +29,8 @@ module _ (M : Meant) where
     pub list : w.list c ≡ v.list c
 
   abbrev pub Opened : Here M → Sight M → Sight M → Act M.Command → Result ℕ Fault → Type 0
-  Opened t v w (start m l) r = Unit {0}
-  Opened t v w (order c n x) r = Unit {0}
-  Opened t v w (settle c) r = Unit {0}
   Opened t v w (hand i c) r = (n e m : ℕ) → r ≡ Ok n → letter M t i ≡ NewConfig e m → OpensWith v w c e
-  Opened t v w (report i) r = Unit {0}
-  Opened t v w (begin i) r = Unit {0}
-  Opened t v w (lower i) r = Unit {0}
-  Opened t v w (propose i m l) r = Unit {0}
-  Opened t v w (abandon i) r = Unit {0}
-  Opened t v w (stop c) r = Unit {0}
+  Opened t v w _ r = Unit {0}
 
   -- a granted order makes an entry, which is found in the speculative state
   pub record Makes (v w : Sight M) (c : ℕ) : Type 0 where
@@ -53,22 +46,26 @@ module _ (M : Meant) where
     pub some : 0 < v.epoch c
 
   abbrev pub Made : Sight M → Sight M → Act M.Command → Result ℕ Fault → Type 0
-  Made v w (start m l) r = Unit {0}
   Made v w (order c n x) r = (a : ℕ) → r ≡ Ok a → Makes v w c
-  Made v w (settle c) r = Unit {0}
-  Made v w (hand i c) r = Unit {0}
-  Made v w (report i) r = Unit {0}
-  Made v w (begin i) r = Unit {0}
-  Made v w (lower i) r = Unit {0}
-  Made v w (propose i m l) r = Unit {0}
-  Made v w (abandon i) r = Unit {0}
-  Made v w (stop c) r = Unit {0}
+  Made v w _ r = Unit {0}
+
+  -- what a granted settle settles is held by every member
+  pub record Settled (v : Sight M) (c n : ℕ) : Type 0 where
+    pub below : c < 8
+    pub held : AllHeld M.applied (first M) v (v.epoch c) n
+    pub leads : v.leader (v.epoch c) ≡ c
+    pub some : 0 < v.epoch c
+
+  abbrev pub Secured : Sight M → Act M.Command → Result ℕ Fault → Type 0
+  Secured v (settle c) r = (n : ℕ) → r ≡ Ok n → Settled v c n
+  Secured v _ r = Unit {0}
 
   -- what a call did
   pub record Fact (t : Here M) (v w : Sight M) (a : Act M.Command) (r : Result ℕ Fault) : Type 0 where
     pub handed : (d : ℕ) → w.handed d ≡ v.handed d ++ delivers M t a r d
     pub opened : Opened t v w a r
     pub made : Made v w a r
+    pub secured : Secured v a r
 
   pub record Goes (a : Act M.Command) (t : Here M) (s : Configured) (v : Sight M) (d : After M) : Type 0 where
     pub view : Sight M
@@ -77,49 +74,27 @@ module _ (M : Meant) where
 
   -- a refusal does nothing
   nothing_refused : (t : Here M) (a : Act M.Command) (g : Fault) (d : ℕ) → delivers M t a (Err g) d ≡ []
-  nothing_refused t (start m l) g d = refl
-  nothing_refused t (order c n x) g d = refl
-  nothing_refused t (settle c) g d = refl
   nothing_refused t (hand i c) g d = refl
-  nothing_refused t (report i) g d = refl
-  nothing_refused t (begin i) g d = refl
-  nothing_refused t (lower i) g d = refl
-  nothing_refused t (propose i m l) g d = refl
-  nothing_refused t (abandon i) g d = refl
-  nothing_refused t (stop c) g d = refl
-
-  pub not_granted : {A : Type 0} (g : Fault) (n : ℕ) → ◌≡◌ {A = Result ℕ Fault} (Err g) (Ok n) → A
-  not_granted g n q = let z : ◌≡◌ {A = ℕ} 0 1 = cc in absurd (omega arith)
+  nothing_refused t _ g d = refl
 
   opened_refused : (t : Here M) (v : Sight M) (a : Act M.Command) (g : Fault) → Opened t v v a (Err g)
-  opened_refused t v (start m l) g = tt
-  opened_refused t v (order c n x) g = tt
-  opened_refused t v (settle c) g = tt
-  opened_refused t v (hand i c) g = λ n e m q l. not_granted g n q
-  opened_refused t v (report i) g = tt
-  opened_refused t v (begin i) g = tt
-  opened_refused t v (lower i) g = tt
-  opened_refused t v (propose i m l) g = tt
-  opened_refused t v (abandon i) g = tt
-  opened_refused t v (stop c) g = tt
+  opened_refused t v (hand i c) g = λ n e m q l. absurd cc
+  opened_refused t v _ g = tt
 
   made_refused : (v : Sight M) (a : Act M.Command) (g : Fault) → Made v v a (Err g)
-  made_refused v (start m l) g = tt
-  made_refused v (order c n x) g = λ a q. not_granted g a q
-  made_refused v (settle c) g = tt
-  made_refused v (hand i c) g = tt
-  made_refused v (report i) g = tt
-  made_refused v (begin i) g = tt
-  made_refused v (lower i) g = tt
-  made_refused v (propose i m l) g = tt
-  made_refused v (abandon i) g = tt
-  made_refused v (stop c) g = tt
+  made_refused v (order c n x) g = λ a q. absurd cc
+  made_refused v _ g = tt
+
+  secured_refused : (v : Sight M) (a : Act M.Command) (g : Fault) → Secured v a (Err g)
+  secured_refused v (settle c) g = λ n q. absurd cc
+  secured_refused v _ g = tt
 
   pub fact_refused : (t : Here M) (v : Sight M) (a : Act M.Command) (g : Fault) → Fact t v v a (Err g)
   fact_refused t v a g = record {
     handed = λ d. rw (nothing_refused t a g d) (sym (append-nil (v.handed d)));
     opened = opened_refused t v a g;
     made = made_refused v a g;
+    secured = secured_refused v a g;
   }
 
   pub to_same : (t : Here M) (s : Configured) (v : Sight M) (d : After M) → Safe M v → Seen M d.after s v → To t s v d v

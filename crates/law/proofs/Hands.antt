@@ -1,8 +1,9 @@
 -- Hand of COMMIT, ACCEPT, HELD and PROBE.
-use Rattle.std.proofs.Common.{◌≡◌, ℕ, ◌+◌, ◌-◌, ◌*◌, ◌<◌, ◌≤◌, Bool, true, false, ltb, leb, List, [], ◌∷◌, ◌++◌, length, get_or, take, drop, set, Some, None, sym, refl, ap, ◌∙◌, subst, inl, inr, arith}
+use Rattle.std.proofs.Common.{◌≡◌, ℕ, ◌+◌, ◌-◌, ◌*◌, ◌<◌, ◌≤◌, Bool, true, false, ltb, leb, List, [], ◌∷◌, ◌++◌, length, get_or, take, drop, set, Some, None, sym, refl, ap, ◌∙◌, inl, inr, arith}
 use Rattle.std.specs.List.{slice_get}
 use Rattle.std.proofs.lemmas.Bool.{cases_lt, cases_eq, ltb-true, lt-ltb, leb-true, leb-false, eq-eqb, ne_eqb}
 use Rattle.std.proofs.lemmas.List.{length-set, get_or-set_same, get_or-set_other, set_past, length-take-le, take-take, drop-take, drop-drop}
+use Rattle.std.proofs.lemmas.List.Folds.{fold_along}
 use Rattle.service.specs.Meant.{Meant, Means}
 use Rattle.config.specs.Members.{member, only}
 use Rattle.config.specs.Configured.{Configured}
@@ -12,25 +13,18 @@ use Rattle.machine.specs.declared.controller.Role.{Role}
 use Rattle.machine.specs.declared.controller.Role.TheVariants.{Fresh, Follower, Leader}
 use Rattle.machine.specs.declared.envelope.Envelope.{Envelope}
 use Rattle.machine.specs.declared.envelope.Message.TheVariants.{Held, Probe, Answer}
-use Rattle.machine.specs.Rows.{longer, delivered_to, with_role, told_to, promised as promising, reach, takes_part}
+use Rattle.machine.specs.Rows.{longer, delivered_to, with_role, told_to, promised as promising, takes_part}
 use Rattle.machine.specs.Machine.{Here, at, part, run, grant, put_controller, put_entry, put_committed, delivered, accepted, told, probed}
 use Rattle.protocol.proofs.View.{AllHeld, fold, deliver, accept, promised}
 use Rattle.protocol.proofs.DeliverKeeps.{deliver_keeps}
 use Rattle.protocol.proofs.AcceptKeeps.{accept_keeps}
 use Rattle.protocol.proofs.PromisedKeeps.{promised_keeps}
 use Rattle.protocol.proofs.Later.{deliver_later, accept_later, promised_later}
-use Rattle.law.proofs.Seen.{Sight, Safe, Grown, Says, Plays, Leading, Seen, first, says_later}
-use Rattle.law.proofs.Tables.{length_part, part_apart, part_push}
-use Rattle.law.proofs.Frames.{bag_later, seats_later, plays_later}
-use Rattle.law.proofs.Moves.{seen_by, stands_set, seen_controller, seen_send, seen_post}
+use Rattle.law.proofs.Seen.{Sight, Safe, Grown, Says, Plays, Seen, first, says_later, plays_as}
+use Rattle.law.proofs.Tables.{stretch_apart, part_push}
+use Rattle.law.proofs.Frames.{plays_later, length_list}
+use Rattle.law.proofs.Moves.{stands_as, seen_set, seen_controller, seen_send, seen_post}
 use Rattle.law.proofs.Goals.{To, to_same}
-
--- how far a COMMIT reaches lies between what is delivered and what it says
-pub reach_most : (n d : ℕ) → reach n d ≤ n
-reach_most n d = omega arith
-
-pub reach_least : (n d : ℕ) → d < n → d ≤ reach n d
-reach_least n d h = omega arith
 
 -- the places from d to r of a list that lies in a stretch
 pub part_of_list : {A : Type 0} (es : List A) (a d r len : ℕ) → d ≤ r → r ≤ len → take (r - d) (drop (a + d) es) ≡ drop d (take r (take len (drop a es)))
@@ -42,12 +36,13 @@ part_of_list {A} es a d r len dr rl =
 module _ (M : Meant) (means : Means M) where
   -- what a list of entries makes of a row means what it makes of the row's meaning
   pub run_means : (x : M.Row) (es : List (Entry M.Update)) → M.mean (run M x es) ≡ fold M.applied (first M) (M.mean x) es
-  run_means x [] = refl
-  run_means x (e ∷ es) = run_means (M.next x e.update) es ∙ ap (λ (m : M.Meaning). fold M.applied (first M) m es) (means x e.update)
+  run_means x es =
+      fold_along (λ y e. M.next y e.update) (λ m e. M.applied m e.update) (λ y m. M.mean y ≡ m)
+      (λ y m e q. means y e.update ∙ ap (λ (n : M.Meaning). M.applied n e.update) q) x (M.mean x) es refl
 
   -- a controller that takes part in an epoch is in it
   pub in_epoch : (v : Sight M) (c : ℕ) (r : Role) → takes_part r ≡ true → Plays M v c r → 0 < v.epoch c
-  in_epoch v c Fresh h p = let z : ◌≡◌ {A = ℕ} 0 1 = cc in absurd (omega arith)
+  in_epoch v c Fresh h p = absurd cc
   in_epoch v c Follower h p = p.0
   in_epoch v c (Leader l) h p = p.some
 
@@ -67,12 +62,10 @@ module _ (M : Meant) (means : Means M) where
       let k = at M t c in
       let p = z.stands c b in
       let pos = in_epoch v c k.role part_in p.role in
-      let big = z.entries in
       let wide = z.committed in
-      let room = p.room in
       let del = p.delivered in
       let ep' : v.epoch c ≡ e = sym p.epoch ∙ ep in
-      let len : k.length ≡ length (v.list c) = sym (length_part t.entries (c * 64) k.length (omega arith)) ∙ ap length p.list in
+      let len = length_list M t s v c z b in
       let held' : AllHeld M.applied (first M) v (v.epoch c) r = rw ep' (held_less v e n r held mid) in
       let w = deliver M.applied (first M) v c r in
       let safe = deliver_keeps M.applied (first M) v c r i pos (omega arith) (omega arith) held' in
@@ -87,20 +80,7 @@ module _ (M : Meant) (means : Means M) where
       record {
         safe = safe;
         grown = g;
-        seen = seen_by M t u s v w i g z refl
-            (record {
-              started = refl;
-              controllers = length-set t.controllers c (delivered_to k r);
-              seats = refl;
-              lengths = refl;
-              entries = refl;
-              openings = refl;
-              committed = length-set t.committed c x;
-              speculative = refl;
-              envelopes = refl;
-              few = z.few;
-            })
-            (stands_set M t u s v w c (delivered_to k r) i g z b refl
+        seen = seen_set M t u s v w c (delivered_to k r) i g z b refl refl (simp length-set refl)
             (record {
               epoch = p.epoch;
               promise = p.promise;
@@ -111,18 +91,8 @@ module _ (M : Meant) (means : Means M) where
               speculative = p.speculative;
               role = plays_later M v w c i g refl k.role p.role;
             })
-            (λ d db ne. let td = ne_eqb d c ne in record {
-              entries = refl;
-              committed = get_or-set_other t.committed c d x M.opening ne;
-              speculative = refl;
-              epoch = refl;
-              promise = refl;
-              list = refl;
-              handed = simp td;
-              meant = simp td;
-              guessed = refl;
-            }))
-            z.opened z.short (bag_later M t s v w i g z) (seats_later M t s v w g z);
+            (λ d db ne. let td = ne_eqb d c ne in simp (get_or-set_other t.committed c d x M.opening ne, td) refl)
+            z.opened z.short;
       }
 
   pub accept_goes : (t : Here M) (s : Configured) (v : Sight M) (c sender e p : ℕ) (x : Entry M.Update) → Safe M v → Seen M t s v → c < 8 → (at M t c).role ≡ Follower → (at M t c).epoch ≡ e
@@ -132,11 +102,11 @@ module _ (M : Meant) (means : Means M) where
   accept_goes t s v c sender e p x i z b role ep pl room sent there =
       let k = at M t c in
       let st = z.stands c b in
-      let follower : Plays M v c Follower = subst (λ (y : Role). Plays M v c y) role st.role in
+      let follower = plays_as M t s v c Follower z b role in
       let big = z.entries in
       let q = st.epoch in
       let ep' : v.epoch c ≡ e = sym q ∙ ep in
-      let len : k.length ≡ length (v.list c) = sym (length_part t.entries (c * 64) k.length (omega arith)) ∙ ap length st.list in
+      let len = length_list M t s v c z b in
       let there' : slice_get (v.grown (v.epoch c)) (length (v.list c)) ≡ Some x = ap (λ (n : ℕ). slice_get (v.grown n) (length (v.list c))) ep' ∙ ap (slice_get (v.grown e)) (sym (pl ∙ len)) ∙ there in
       let w = accept M.applied (first M) v c x in
       let safe = accept_keeps M.applied (first M) v c x i follower.0 follower.1 there' in
@@ -145,20 +115,7 @@ module _ (M : Meant) (means : Means M) where
       let tc = eq-eqb c c refl in
       let env : Envelope M.Update = record { sender = c; to = only sender; message = Held e (p + 1) c } in
       let te = eq-eqb e (v.epoch c) (sym ep') in
-      let zu = seen_by M t u s v w i g z refl
-      (record {
-        started = refl;
-        controllers = length-set t.controllers c (longer k);
-        seats = refl;
-        lengths = refl;
-        entries = length-set t.entries (c * 64 + k.length) x;
-        openings = refl;
-        committed = refl;
-        speculative = refl;
-        envelopes = refl;
-        few = z.few;
-      })
-      (stands_set M t u s v w c (longer k) i g z b refl
+      let zu = seen_set M t u s v w c (longer k) i g z b refl refl (simp length-set refl)
       (record {
         epoch = st.epoch;
         promise = st.promise;
@@ -169,22 +126,8 @@ module _ (M : Meant) (means : Means M) where
         speculative = st.speculative;
         role = plays_later M v w c i g refl k.role st.role;
       })
-      (λ d db ne.
-      let td = ne_eqb d c ne in
-      let o = z.stands d db in
-      let orm = o.room in
-      record {
-        entries = part_apart t.entries (d * 64) (at M t d).length (c * 64 + k.length) x (omega arith) (elim (cases_lt c d) [ inl lt ↦ inl (omega arith) | inr ge ↦ inr (let m : d < c = elim (cases_lt d c) [ inl y ↦ y | inr y ↦ absurd (ne (omega arith)) ] in omega arith) ]);
-        committed = refl;
-        speculative = refl;
-        epoch = refl;
-        promise = refl;
-        list = simp td;
-        handed = refl;
-        meant = refl;
-        guessed = refl;
-      }))
-      z.opened z.short (bag_later M t s v w i g z) (seats_later M t s v w g z) in
+      (λ d db ne. let td = ne_eqb d c ne in simp (stretch_apart t.entries c d (at M t d).length k.length x ne db z.entries (z.stands d db).room room, td) refl)
+      z.opened z.short in
       record {
         safe = safe;
         grown = g;
@@ -196,7 +139,7 @@ module _ (M : Meant) (means : Means M) where
   held_goes t s v c e h f l i z b role ep said =
       let k = at M t c in
       let st = z.stands c b in
-      let lead : Leading M v c l = subst (λ (y : Role). Plays M v c y) role st.role in
+      let lead = plays_as M t s v c (Leader l) z b role in
       let ep' : v.epoch c ≡ e = sym st.epoch ∙ ep in
       let role' : Plays M v c (told_to k.role f h) = rw role (record {
         some = lead.some;
@@ -210,8 +153,7 @@ module _ (M : Meant) (means : Means M) where
           | inr d ↦ lead.told g n (sym (get_or-set_other l.told f g (Some h) None d) ∙ q)
         ];
       }) in
-      to_same M t s v (grant M 0 (told M t c k f h)) i (seen_controller M t s v c (with_role k (told_to k.role f h)) i z b
-      (record { epoch = st.epoch; promise = st.promise; room = st.room; list = st.list; delivered = st.delivered; committed = st.committed; speculative = st.speculative; role = role' }))
+      to_same M t s v (grant M 0 (told M t c k f h)) i (seen_controller M t s v c (with_role k (told_to k.role f h)) i z b (stands_as M t v c k k.running (told_to k.role f h) st role'))
 
   -- the answer to a PROBE says what is true of the controller that gives it
   answer_says : (v w : Sight M) (c n e j : ℕ) (y : Bool) → Grown M v w → (y ≡ true → Says M v 0 (Answer true n e c j)) → (y ≡ false → w.denied n e c ≡ true) → Safe M v → Says M w 0 (Answer y n e c j)
@@ -236,20 +178,7 @@ module _ (M : Meant) (means : Means M) where
       let tn = eq-eqb n n refl in
       let te = eq-eqb e e refl in
       let env : Envelope M.Update = record { sender = c; to = 0; message = Answer (leb e k.epoch) n e c j } in
-      let zu = seen_by M t u s v w i g z refl
-      (record {
-        started = refl;
-        controllers = length-set t.controllers c (promising k n);
-        seats = refl;
-        lengths = refl;
-        entries = refl;
-        openings = refl;
-        committed = refl;
-        speculative = refl;
-        envelopes = refl;
-        few = z.few;
-      })
-      (stands_set M t u s v w c (promising k n) i g z b refl
+      let zu = seen_set M t u s v w c (promising k n) i g z b refl refl (simp length-set refl)
       (record {
         epoch = st.epoch;
         promise = simp tc;
@@ -260,18 +189,8 @@ module _ (M : Meant) (means : Means M) where
         speculative = st.speculative;
         role = plays_later M v w c i g refl k.role st.role;
       })
-      (λ d db ne. let td = ne_eqb d c ne in record {
-        entries = refl;
-        committed = refl;
-        speculative = refl;
-        epoch = refl;
-        promise = simp td;
-        list = refl;
-        handed = refl;
-        meant = refl;
-        guessed = refl;
-      }))
-      z.opened z.short (bag_later M t s v w i g z) (seats_later M t s v w g z) in
+      (λ d db ne. let td = ne_eqb d c ne in simp td refl)
+      z.opened z.short in
       record {
         safe = safe;
         grown = g;

@@ -11,3 +11,4 @@ pub mod Calls
 pub mod Starts
 pub mod Lived
 pub mod Laws
+pub mod Steps

@@ -1,6 +1,7 @@
 -- Every life of a floor is seen, moment by moment.
 use Rattle.std.proofs.Common.{◌≡◌, ℕ, zero, suc, ◌≤◌, Bool, true, false, cond, ltb, List, [], ◌∷◌, ◌++◌, take, Some, None, sym, refl, ap, ◌∙◌, subst, inl, inr, arith}
 use Rattle.std.specs.List.{slice_get}
+use Rattle.std.proofs.Math.Seq.{take-nil}
 use Rattle.std.proofs.lemmas.List.{append-nil, append_assoc}
 use Rattle.service.specs.Meant.{Meant, Means}
 use Rattle.config.specs.Made.{made}
@@ -9,98 +10,61 @@ use Rattle.entries.specs.declared.Entry.{Entry}
 use Rattle.machine.specs.declared.controller.Controller.{Controller}
 use Rattle.machine.specs.declared.fault.Fault.{Fault}
 use Rattle.machine.specs.declared.fault.Fault.TheVariants.{ShortTables, NotStarted, OutOfRange}
-use Rattle.machine.specs.Machine.{Here, After, Both, at, absent, long_tables, refuse, ask, unless, with_config, ordered, led, settled, settling, handed}
-use Rattle.machine.specs.Changes.{Act, start, order, settle, hand, report, begin, lower, propose, abandon, stop, act, seat_at, at_seat, beginning, lowering, abandoning, report_of, begin_of, lower_of, abandon_of, stop_of, proposal, propose_of}
+use Rattle.machine.specs.Machine.{Here, After, at, absent, long_tables, refuse, ask, unless, with_config, ordered, led, settled, settling, handed}
+use Rattle.machine.specs.Changes.{Act, start, order, settle, hand, report, begin, lower, propose, abandon, stop, act, report_of, begin_of, lower_of, abandon_of, stop_of, proposal, propose_of}
 use Rattle.protocol.proofs.Later.{later_same, later_chain}
 use Rattle.protocol.proofs.BeginKeeps.{idle_inv}
-use Rattle.law.specs.Lives.{World, New, Call, opening, outcome, next, moment, delivers, delivered}
+use Rattle.law.specs.Lives.{World, New, Call, opening, outcome, next, end, moment, delivers, delivered}
 use Rattle.law.proofs.Seen.{Sight, Safe, Grown, Seen, first}
 use Rattle.law.proofs.Goals.{Fact}
-use Rattle.law.proofs.Frames.{asked, unrefused}
+use Rattle.law.proofs.Frames.{past_start, past_absence}
 use Rattle.law.proofs.Quiet.{stop_goes, abandon_goes, settle_goes, begin_goes, lower_goes, report_goes}
 use Rattle.law.proofs.Orders.{order_goes}
 use Rattle.law.proofs.Calls.{hand_goes}
-use Rattle.law.proofs.Starts.{nothing, nothing_idle, Known, Leads, refusal_leads, goes_leads, propose_leads, start_leads, start_again}
+use Rattle.law.proofs.Starts.{nothing, nothing_idle, Known, Leads, refusal_leads, asks_leads, goes_leads, propose_leads, start_leads, start_again}
 
 pub not_absent : (b : Bool) (ks : List Controller) (c : ℕ) → b ≡ false → absent b ks c ≡ None → ⊥
-not_absent true ks c q h = let z : ◌≡◌ {A = ℕ} 0 1 = cc in omega arith
-not_absent false ks c q h = let z : ◌≡◌ {A = ℕ} 0 1 = cc in omega arith
-
-not_both : {A : Type 0} (b : Bool) → b ≡ false → b ≡ true → A
-not_both b f t = let z : ◌≡◌ {A = ℕ} 0 1 = cc in absurd (omega arith)
+not_absent true ks c q h = cc
+not_absent false ks c q h = cc
 
 module _ (M : Meant) where
   -- a floor that is not started refuses every call but start
   abbrev Refused : Here M → After M → Type 0
   Refused t d = (g : Fault) × (d ≡ refuse M t g)
 
-  at_no_seat : (t : Here M) (j : ℕ) (d : After M) → t.started ≡ false → Refused t (at_seat M t j d)
-  at_no_seat t j d n =
-      asked M (Refused t) t (long_tables M t) ShortTables (ask M t t.started NotStarted (ask M t (ltb j 4) OutOfRange d)) (λ g. (g, refl)) λ _.
-      asked M (Refused t) t t.started NotStarted (ask M t (ltb j 4) OutOfRange d) (λ g. (g, refl)) λ h. not_both t.started n h
-
   at_no_controller : (t : Here M) (c : ℕ) (d : After M) → t.started ≡ false → Refused t (ask M t (long_tables M t) ShortTables (unless M t (absent t.started t.controllers c) d))
   at_no_controller t c d n =
-      asked M (Refused t) t (long_tables M t) ShortTables (unless M t (absent t.started t.controllers c) d) (λ g. (g, refl)) λ _.
-      unrefused M (Refused t) t (absent t.started t.controllers c) d (λ g. (g, refl)) λ h. absurd (not_absent t.started t.controllers c n h)
+      past_absence M (Refused t) t c d (λ g. (g, refl)) λ h. absurd (not_absent t.started t.controllers c n h)
 
-  at_no_envelope : (t : Here M) (d : After M) → t.started ≡ false → Refused t (ask M t (long_tables M t) ShortTables (ask M t t.started NotStarted d))
-  at_no_envelope t d n =
-      asked M (Refused t) t (long_tables M t) ShortTables (ask M t t.started NotStarted d) (λ g. (g, refl)) λ _.
-      asked M (Refused t) t t.started NotStarted d (λ g. (g, refl)) λ h. not_both t.started n h
+  not_started : (t : Here M) (d : After M) → t.started ≡ false → Refused t (ask M t (long_tables M t) ShortTables (ask M t t.started NotStarted d))
+  not_started t d n =
+      past_start M (Refused t) t d (λ g. (g, refl)) λ h. absurd cc
 
   refused_leads : (a : Act M.Command) (t : Here M) (s : Configured) (v : Sight M) (d : After M) → Known M t s v → Refused t d → Leads M a t v (with_config M d s)
   refused_leads a t s v d k (g, q) = subst (λ (x : After M). Leads M a t v (with_config M x s)) (sym q) (refusal_leads M a t s v k g)
 
   propose_refused : (t : Here M) (s : Configured) (v : Sight M) (j m l : ℕ) → Known M t s v → t.started ≡ false → Leads M (propose j m l) t v (propose_of M t s j m l)
-  propose_refused t s v j m l k n = by (long_tables M t) t.started n (cond (ltb j 4) (proposal M t s j (made m l)) (with_config M (refuse M t OutOfRange) s))
-    where
-      by : (b b' : Bool) → b' ≡ false → (d : Both M) → Leads M (propose j m l) t v (cond b (cond b' d (with_config M (refuse M t NotStarted) s)) (with_config M (refuse M t ShortTables) s))
-      by false b' q d = refusal_leads M (propose j m l) t s v k ShortTables
-      by true false q d = refusal_leads M (propose j m l) t s v k NotStarted
-      by true true q d = not_both true q refl
+  propose_refused t s v j m l k n =
+      let d = cond (ltb j 4) (proposal M t s j (made m l)) (with_config M (refuse M t OutOfRange) s) in
+      asks_leads M (propose j m l) t s v k (long_tables M t) (cond t.started d (with_config M (refuse M t NotStarted) s)) ShortTables λ _.
+      asks_leads M (propose j m l) t s v k t.started d NotStarted λ h. absurd cc
 
   idle_leads : (t : Here M) (s : Configured) → New M t → Kept s → (a : Act M.Command) → Leads M a t (nothing M) (act M t s a)
   idle_leads t s n k (start m l) = start_leads M t s m l n k
   idle_leads t s n k (order c i x) = refused_leads (order c i x) t s (nothing M) (ordered M t c i x) (inl (n, k, refl)) (at_no_controller t c (led M t c i x (at M t c) (at M t c).role) n.started)
   idle_leads t s n k (settle c) = refused_leads (settle c) t s (nothing M) (settled M t c) (inl (n, k, refl)) (at_no_controller t c (settling M t c (at M t c) (at M t c).role) n.started)
-  idle_leads t s n k (hand i c) = refused_leads (hand i c) t s (nothing M) (handed M t i c) (inl (n, k, refl)) (at_no_envelope t _ n.started)
-  idle_leads t s n k (report i) = refused_leads (report i) t s (nothing M) (report_of M t i) (inl (n, k, refl)) (at_no_envelope t _ n.started)
-  idle_leads t s n k (begin j) = refused_leads (begin j) t s (nothing M) (begin_of M t s j) (inl (n, k, refl)) (at_no_seat t j (beginning M t s j (seat_at M t j)) n.started)
-  idle_leads t s n k (lower j) = refused_leads (lower j) t s (nothing M) (lower_of M t s j) (inl (n, k, refl)) (at_no_seat t j (lowering M t s j (seat_at M t j)) n.started)
+  idle_leads t s n k (hand i c) = refused_leads (hand i c) t s (nothing M) (handed M t i c) (inl (n, k, refl)) (not_started t _ n.started)
+  idle_leads t s n k (report i) = refused_leads (report i) t s (nothing M) (report_of M t i) (inl (n, k, refl)) (not_started t _ n.started)
+  idle_leads t s n k (begin j) = refused_leads (begin j) t s (nothing M) (begin_of M t s j) (inl (n, k, refl)) (not_started t _ n.started)
+  idle_leads t s n k (lower j) = refused_leads (lower j) t s (nothing M) (lower_of M t s j) (inl (n, k, refl)) (not_started t _ n.started)
   idle_leads t s n k (propose j m l) = propose_refused t s (nothing M) j m l (inl (n, k, refl)) n.started
-  idle_leads t s n k (abandon j) = refused_leads (abandon j) t s (nothing M) (abandon_of M t j) (inl (n, k, refl)) (at_no_seat t j (abandoning M t j (seat_at M t j)) n.started)
+  idle_leads t s n k (abandon j) = refused_leads (abandon j) t s (nothing M) (abandon_of M t j) (inl (n, k, refl)) (not_started t _ n.started)
   idle_leads t s n k (stop c) = refused_leads (stop c) t s (nothing M) (stop_of M t c) (inl (n, k, refl)) (at_no_controller t c _ n.started)
 
   -- the service opens or closes
   opening_known : (t : Here M) (s : Configured) (v : Sight M) (o : Bool) → Known M t s v → Known M t (opening M s o) v
   opening_known t s v o (inl (n, k, q)) = inl (n, record { some = k.some; most = k.most; fits = k.fits; lawfully = k.lawfully }, q)
-  opening_known t s v o (inr (i, z)) = inr (
-    i,
-    record {
-      started = z.started;
-      eight = z.eight;
-      four = z.four;
-      epochs = z.epochs;
-      entries = z.entries;
-      openings = z.openings;
-      committed = z.committed;
-      speculative = z.speculative;
-      envelopes = z.envelopes;
-      few = z.few;
-      stands = z.stands;
-      last = z.last;
-      some = z.some;
-      limit = z.limit;
-      most = z.most;
-      members = z.members;
-      leader = z.leader;
-      opened = z.opened;
-      short = z.short;
-      bag = z.bag;
-      seats = z.seats;
-    },
-  )
+  opening_known t s v o (inr (i, z)) = inr (i, record { roomy = z.roomy; few = z.few; stands = z.stands; stored = z.stored; opened = z.opened; short = z.short; bag = z.bag; seats = z.seats })
 
   pub known_safe : (t : Here M) (s : Configured) (v : Sight M) → Known M t s v → Safe M v
   known_safe t s v (inl (n, k, q)) = subst (λ (x : Sight M). Safe M x) (sym q) (idle_inv M.applied (first M) (nothing M) (nothing_idle M))
@@ -109,15 +73,15 @@ module _ (M : Meant) where
 module _ (M : Meant) (means : Means M) where
   seen_leads : (t : Here M) (s : Configured) (v : Sight M) → Safe M v → Seen M t s v → (a : Act M.Command) → Leads M a t v (act M t s a)
   seen_leads t s v i z (start m l) = start_again M t s v m l i z
-  seen_leads t s v i z (order c n x) = goes_leads M (order c n x) t s v (ordered M t c n x) (order_goes M means t s v c n x i z)
-  seen_leads t s v i z (settle c) = goes_leads M (settle c) t s v (settled M t c) (settle_goes M t s v c i z)
-  seen_leads t s v i z (hand n c) = goes_leads M (hand n c) t s v (handed M t n c) (hand_goes M means t s v n c i z)
-  seen_leads t s v i z (report n) = goes_leads M (report n) t s v (report_of M t n) (report_goes M t s v n i z)
-  seen_leads t s v i z (begin j) = goes_leads M (begin j) t s v (begin_of M t s j) (begin_goes M t s v j i z)
-  seen_leads t s v i z (lower j) = goes_leads M (lower j) t s v (lower_of M t s j) (lower_goes M t s v j i z)
+  seen_leads t s v i z (order c n x) = goes_leads M _ t s v _ (order_goes M means t s v c n x i z)
+  seen_leads t s v i z (settle c) = goes_leads M _ t s v _ (settle_goes M t s v c i z)
+  seen_leads t s v i z (hand n c) = goes_leads M _ t s v _ (hand_goes M means t s v n c i z)
+  seen_leads t s v i z (report n) = goes_leads M _ t s v _ (report_goes M t s v n i z)
+  seen_leads t s v i z (begin j) = goes_leads M _ t s v _ (begin_goes M t s v j i z)
+  seen_leads t s v i z (lower j) = goes_leads M _ t s v _ (lower_goes M t s v j i z)
   seen_leads t s v i z (propose j m l) = propose_leads M t s v j m l i z
-  seen_leads t s v i z (abandon j) = goes_leads M (abandon j) t s v (abandon_of M t j) (abandon_goes M t s v j i z)
-  seen_leads t s v i z (stop c) = goes_leads M (stop c) t s v (stop_of M t c) (stop_goes M t s v c i z)
+  seen_leads t s v i z (abandon j) = goes_leads M _ t s v _ (abandon_goes M t s v j i z)
+  seen_leads t s v i z (stop c) = goes_leads M _ t s v _ (stop_goes M t s v c i z)
 
   -- every call, granted or refused, on a floor that is new or seen
   pub act_leads : (t : Here M) (s : Configured) (v : Sight M) → Known M t s v → (a : Act M.Command) → Leads M a t v (act M t s a)
@@ -145,20 +109,12 @@ module _ (M : Meant) (means : Means M) where
   story w v [] h = record {
     view = λ i. v;
     start_view = refl;
-    known = λ i. ends i;
+    known = λ i. subst (λ (xs : List (Call M)). Known M (end M w xs).floor (end M w xs).config v) (sym (take-nil i)) h;
     grown = λ i j l. later_same M.applied (first M) v;
-    fact = λ i k q. let z : ◌≡◌ {A = ℕ} 0 1 = cc in absurd (omega arith);
-    after = λ i k q. let z : ◌≡◌ {A = ℕ} 0 1 = cc in absurd (omega arith);
-    told = λ i d. nothing_told i d;
+    fact = λ i k q. absurd cc;
+    after = λ i k q. absurd cc;
+    told = λ i d. sym (ap (λ (xs : List (Call M)). v.handed d ++ delivered M w xs d) (take-nil i) ∙ append-nil (v.handed d));
   }
-    where
-      ends : (i : ℕ) → Known M (moment M w [] i).floor (moment M w [] i).config v
-      ends zero = h
-      ends (suc i) = h
-
-      nothing_told : (i d : ℕ) → v.handed d ≡ v.handed d ++ delivered M w (take i []) d
-      nothing_told zero d = sym (append-nil (v.handed d))
-      nothing_told (suc i) d = sym (append-nil (v.handed d))
   story w v (k ∷ ks) h =
       let g = call_leads w v h k in
       let r = story (next M w k) g.view ks g.known in

@@ -1,67 +1,62 @@
 -- A call that touches one controller, seen before and after.
-use Rattle.std.proofs.Common.{◌≡◌, ℕ, ◌-◌, ◌<◌, ◌≤◌, true, false, eqb, List, length, get_or, set, sym, refl, ap, ◌∙◌, subst, inl, inr, arith}
+use Rattle.std.proofs.Common.{◌≡◌, ℕ, ◌-◌, ◌<◌, ◌≤◌, Bool, true, false, eqb, List, get_or, set, sym, refl, ap, ◌∙◌, subst, inl, inr, arith}
 use Rattle.std.proofs.lemmas.Bool.{cases_Bool}
 use Rattle.std.proofs.lemmas.List.{length-set}
 use Rattle.service.specs.Meant.{Meant}
 use Rattle.config.specs.Configured.{Configured}
 use Rattle.machine.specs.declared.controller.Controller.{Controller}
+use Rattle.machine.specs.declared.controller.Role.{Role}
 use Rattle.machine.specs.declared.envelope.Envelope.{Envelope}
 use Rattle.machine.specs.declared.seat.Seat.{Seat}
 use Rattle.machine.specs.declared.seat.Seat.TheVariants.{Idle}
 use Rattle.machine.specs.Rows.{no_controller}
 use Rattle.machine.specs.Machine.{Here, at, opening_of, no_envelope, put_controller, put_seat, post, send}
 use Rattle.protocol.proofs.Later.{later_same}
-use Rattle.law.proofs.Seen.{Sight, Safe, Grown, Says, Sits, Stands, Seen, first}
-use Rattle.law.proofs.Frames.{Alike, stands_later, bag_more, seats_set}
+use Rattle.law.proofs.Seen.{Sight, Safe, Grown, Says, Sits, Plays, Stands, Seen, sizes, first}
+use Rattle.law.proofs.Frames.{Alike, stands_later, bag_later, bag_more, seats_later, seats_set}
 use Rattle.law.proofs.Tables.{set_at}
 
 module _ (M : Meant) where
-  -- a floor's tables keep their lengths
-  pub record Sized (t u : Here M) : Type 0 where
-    pub started : u.started ≡ t.started
-    pub controllers : length u.controllers ≡ length t.controllers
-    pub seats : length u.seats ≡ length t.seats
-    pub lengths : length u.lengths ≡ length t.lengths
-    pub entries : length u.entries ≡ length t.entries
-    pub openings : length u.openings ≡ length t.openings
-    pub committed : length u.committed ≡ length t.committed
-    pub speculative : length u.speculative ≡ length t.speculative
-    pub envelopes : length u.envelopes ≡ length t.envelopes
-    pub few : u.sent ≤ 1024
-
-  pub seen_by : (t u : Here M) (s : Configured) (v w : Sight M) → Safe M v → Grown M v w → Seen M t s v → w.last ≡ v.last → Sized t u
+  seen_by : (t u : Here M) (s : Configured) (v w : Sight M) → Safe M v → Grown M v w → Seen M t s v → w.last ≡ v.last → sizes M u ≡ sizes M t → u.sent ≤ 1024
       → ((c : ℕ) → c < 8 → Stands M u w c (at M u c))
       → ((e : ℕ) → w.opened e ≡ true → opening_of u.openings e (get_or u.lengths (e - 1) 0) ≡ w.opening e)
       → ((e : ℕ) → w.opened e ≡ true → get_or u.lengths (e - 1) 0 ≤ 64)
       → ((i : ℕ) → i < u.sent → Says M w (get_or u.envelopes i no_envelope).to (get_or u.envelopes i no_envelope).message)
       → ((i : ℕ) → i < 4 → Sits M w (get_or u.seats i Idle))
       → Seen M u s w
-  seen_by t u s v w i l z last sz stands opened short bag seats = record {
-    started = sz.started ∙ z.started;
-    eight = sz.controllers ∙ z.eight;
-    four = sz.seats ∙ z.four;
-    epochs = sz.lengths ∙ z.epochs;
-    entries = rw sz.entries z.entries;
-    openings = rw sz.openings z.openings;
-    committed = rw sz.committed z.committed;
-    speculative = rw sz.speculative z.speculative;
-    envelopes = rw sz.envelopes z.envelopes;
-    few = sz.few;
+  seen_by t u s v w i l z last same few stands opened short bag seats = record {
+    roomy = rw same z.roomy;
+    few = few;
     stands = stands;
-    last = z.last ∙ sym last;
-    some = rw last z.some;
-    limit = z.limit;
-    most = rw last z.most;
-    members = λ e f a b. z.members e f a (rw last at b) ∙ sym (l.member e f a (rw last at b));
-    leader = λ e a b. z.leader e a (rw last at b) ∙ sym (l.leader e a (rw last at b));
+    stored = record {
+      last = z.last ∙ sym last;
+      some = rw last z.some;
+      limit = z.limit;
+      most = rw last z.most;
+      members = λ e f a b. z.members e f a (rw last at b) ∙ sym (l.member e f a (rw last at b));
+      leader = λ e a b. z.leader e a (rw last at b) ∙ sym (l.leader e a (rw last at b));
+    };
     opened = opened;
     short = short;
     bag = bag;
     seats = seats;
   }
 
+  -- a controller stopped, or in another role
+  pub stands_as : (t : Here M) (v : Sight M) (c : ℕ) (k : Controller) (b : Bool) (r : Role) → Stands M t v c k → Plays M v c r → Stands M t v c (record k { running = b; role = r })
+  stands_as t v c k b r p plays = record {
+    epoch = p.epoch;
+    promise = p.promise;
+    room = p.room;
+    list = p.list;
+    delivered = p.delivered;
+    committed = p.committed;
+    speculative = p.speculative;
+    role = plays;
+  }
+
   -- one controller exchanged
-  pub stands_set : (t u : Here M) (s : Configured) (v w : Sight M) (c : ℕ) (k : Controller) → Safe M v → Grown M v w → Seen M t s v → c < 8
+  stands_set : (t u : Here M) (s : Configured) (v w : Sight M) (c : ℕ) (k : Controller) → Safe M v → Grown M v w → Seen M t s v → c < 8
       → u.controllers ≡ set t.controllers c k → Stands M u w c k
       → ((d : ℕ) → d < 8 → (d ≡ c → ⊥) → Alike M t u v w d (at M t d).length)
       → (d : ℕ) → d < 8 → Stands M u w d (at M u d)
@@ -76,31 +71,26 @@ module _ (M : Meant) where
             subst (λ (x : Controller). Stands M u w d x) (sym q) (stands_later M t u v w d (at M t d) i l (there d db p.0) (z.stands d db))
       ]
 
-  -- nothing changed for a controller
-  pub alike_same : (t : Here M) (v : Sight M) (d n : ℕ) → Alike M t t v v d n
-  alike_same t v d n = record {
-    entries = refl;
-    committed = refl;
-    speculative = refl;
-    epoch = refl;
-    promise = refl;
-    list = refl;
-    handed = refl;
-    meant = refl;
-    guessed = refl;
-  }
+  -- one controller exchanged, with nothing sent and every seat as it was
+  pub seen_set : (t u : Here M) (s : Configured) (v w : Sight M) (c : ℕ) (k : Controller) → Safe M v → Grown M v w → Seen M t s v → c < 8
+      → u ≡ record u { controllers = set t.controllers c k; seats = t.seats; sent = t.sent; envelopes = t.envelopes } → w.last ≡ v.last → sizes M u ≡ sizes M t
+      → Stands M u w c k → ((d : ℕ) → d < 8 → (d ≡ c → ⊥) → Alike M t u v w d (at M t d).length)
+      → ((e : ℕ) → w.opened e ≡ true → opening_of u.openings e (get_or u.lengths (e - 1) 0) ≡ w.opening e)
+      → ((e : ℕ) → w.opened e ≡ true → get_or u.lengths (e - 1) 0 ≤ 64)
+      → Seen M u s w
+  seen_set t u s v w c k i l z cb only last same here there opened short =
+      let u' : Here M = record u { controllers = set t.controllers c k; seats = t.seats; sent = t.sent; envelopes = t.envelopes } in
+      subst (λ (x : Here M). Seen M x s w) (sym only)
+      (seen_by t u' s v w i l z last (sym (ap (sizes M) only) ∙ same) z.few
+      (stands_set t u' s v w c k i l z cb refl (subst (λ (x : Here M). Stands M x w c k) only here) there)
+      opened short (bag_later M t s v w i l z) (seats_later M t s v w l z))
 
   -- a controller exchanged for one that stands in the same view
   pub seen_controller : (t : Here M) (s : Configured) (v : Sight M) (c : ℕ) (k : Controller) → Safe M v → Seen M t s v → c < 8 → Stands M t v c k → Seen M (put_controller M t c k) s v
   seen_controller t s v c k i z cb here =
       let u = put_controller M t c k in
       let l = later_same M.applied (first M) v in
-      seen_by t u s v v i l z refl
-      (record { started = refl; controllers = length-set t.controllers c k; seats = refl; lengths = refl; entries = refl; openings = refl; committed = refl; speculative = refl; envelopes = refl; few = z.few })
-      (stands_set t u s v v c k i l z cb refl
-      (record { epoch = here.epoch; promise = here.promise; room = here.room; list = here.list; delivered = here.delivered; committed = here.committed; speculative = here.speculative; role = here.role })
-      (λ d db n. record { entries = refl; committed = refl; speculative = refl; epoch = refl; promise = refl; list = refl; handed = refl; meant = refl; guessed = refl }))
-      z.opened z.short z.bag z.seats
+      seen_set t u s v v c k i l z cb refl refl (simp length-set refl) (stands_later M t u v v c k i l refl here) (λ d db n. refl) z.opened z.short
 
   -- an envelope posted, or sent where it has an addressee
   pub seen_post : (t : Here M) (s : Configured) (v : Sight M) (e : Envelope M.Update) → Safe M v → Seen M t s v → t.sent < 1024 → Says M v e.to e.message → Seen M (post M t e) s v
@@ -108,8 +98,8 @@ module _ (M : Meant) where
       let u = post M t e in
       let l = later_same M.applied (first M) v in
       seen_by t u s v v i l z refl
-      (record { started = refl; controllers = refl; seats = refl; lengths = refl; entries = refl; openings = refl; committed = refl; speculative = refl; envelopes = length-set t.envelopes t.sent e; few = omega arith })
-      (λ c cb. let p = z.stands c cb in record { epoch = p.epoch; promise = p.promise; room = p.room; list = p.list; delivered = p.delivered; committed = p.committed; speculative = p.speculative; role = p.role })
+      (simp length-set refl) (omega arith)
+      (λ c cb. stands_later M t u v v c (at M t c) i l refl (z.stands c cb))
       z.opened z.short (bag_more M t s v v e i l z room good) z.seats
 
   pub seen_send : (t : Here M) (s : Configured) (v : Sight M) (e : Envelope M.Update) → Safe M v → Seen M t s v → (eqb e.to 0 ≡ false → t.sent < 1024) → Says M v e.to e.message → Seen M (send M t e) s v
@@ -122,6 +112,6 @@ module _ (M : Meant) where
       let u = put_seat M t j x in
       let l = later_same M.applied (first M) v in
       seen_by t u s v v i l z refl
-      (record { started = refl; controllers = refl; seats = length-set t.seats j x; lengths = refl; entries = refl; openings = refl; committed = refl; speculative = refl; envelopes = refl; few = z.few })
-      (λ c cb. let p = z.stands c cb in record { epoch = p.epoch; promise = p.promise; room = p.room; list = p.list; delivered = p.delivered; committed = p.committed; speculative = p.speculative; role = p.role })
+      (simp length-set refl) z.few
+      (λ c cb. stands_later M t u v v c (at M t c) i l refl (z.stands c cb))
       z.opened z.short z.bag (seats_set M t s v v j x l z jb good)

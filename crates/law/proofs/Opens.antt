@@ -1,5 +1,8 @@
 -- Hand of NEWCONFIG and NEWSTATE.
 use Rattle.std.proofs.Common.{◌≡◌, ℕ, ◌+◌, ◌-◌, ◌*◌, ◌/◌, ◌%◌, ◌^◌, ◌<◌, ◌≤◌, true, List, length, get_or, take, drop, set, replicate, Some, None, Option, sym, refl, ap, ◌∙◌, inl, inr, one-mul, arith}
+use native.Mathlib.Nat.{add-mul-div_right}
+use Rattle.std.proofs.lemmas.Nat.{pow_pos}
+use Rattle.std.proofs.lemmas.Bool.Decides.{nat_tests}
 use Rattle.std.proofs.lemmas.Bool.{cases_lt, cases_eq, cases_Bool, lt-ltb, eqb-true, eq-eqb, ne_eqb}
 use Rattle.std.proofs.lemmas.List.{length-set, get_or-set_same, get_or-set_other, get_or-replicate, get_or_past, take_all}
 use Rattle.service.specs.Meant.{Meant, Means}
@@ -18,10 +21,10 @@ use Rattle.protocol.proofs.JoinKeeps.{join_keeps}
 use Rattle.protocol.proofs.Later.{open_later, join_later}
 use Rattle.law.proofs.Seen.{Sight, Safe, Grown, Says, Seen, first}
 use Rattle.law.proofs.Tables.{length_part, length_over, part_over, part_over_apart}
-use Rattle.law.proofs.Frames.{bag_later, seats_later}
-use Rattle.law.proofs.Moves.{seen_by, stands_set, seen_send}
+use Rattle.law.proofs.Frames.{length_list}
+use Rattle.law.proofs.Moves.{seen_set, seen_send}
 use Rattle.law.proofs.Goals.{To}
-use Rattle.law.proofs.Quiet.{spaced, member_lt, shift_add, other_bits}
+use Rattle.law.proofs.Quiet.{spaced, member_lt, other_bits}
 use Rattle.law.proofs.Hands.{run_means, part_of_list}
 
 -- a set without c has those that it had, but c
@@ -37,21 +40,21 @@ without_has m c h q =
           let th = lt-ltb h 8 hb in
           let one : m / 2 ^ c % 2 ≡ 1 = eqb-true (m / 2 ^ c % 2) 1 (simp tc at t) in
           let back : m - 2 ^ c + 2 ^ c ≡ m = omega arith in
-          let shift : m / 2 ^ c ≡ (m - 2 ^ c) / 2 ^ c + 1 = ap (λ n. n / 2 ^ c) (sym back) ∙ ap (λ n. (m - 2 ^ c + n) / 2 ^ c) (sym (one-mul (2 ^ c))) ∙ shift_add (m - 2 ^ c) c 1 in
+          let shift : m / 2 ^ c ≡ (m - 2 ^ c) / 2 ^ c + 1 = ap (λ n. n / 2 ^ c) (sym back) ∙ ap (λ n. (m - 2 ^ c + n) / 2 ^ c) (sym (one-mul (2 ^ c))) ∙ add-mul-div_right (m - 2 ^ c) 1 (pow_pos c) in
           let none : (m - 2 ^ c) / 2 ^ c % 2 ≡ 0 = omega arith in
           let bit : (m - 2 ^ c) / 2 ^ h % 2 ≡ 1 = eqb-true ((m - 2 ^ c) / 2 ^ h % 2) 1 (simp th at q') in
           let apart : h ≡ c → ⊥ = λ e. let b' : (m - 2 ^ c) / 2 ^ c % 2 ≡ 1 = rw e at bit in omega arith in
           let kept = other_bits (m - 2 ^ c) c h apart none in
           (simp th (eq-eqb (m / 2 ^ h % 2) 1 (ap (λ n. n / 2 ^ h % 2) (sym back) ∙ kept ∙ bit)), apart)
-      | inr t ↦ let q' : member m h ≡ true = simp t at q in (q', λ e. let r : member m c ≡ true = rw e at q' in let z : ◌≡◌ {A = ℕ} 0 1 = cc in omega arith)
+      | inr t ↦ let q' : member m h ≡ true = simp t at q in (q', λ e. let r : member m c ≡ true = rw e at q' in cc)
     ]
 
 -- nobody has told a new leader anything
 pub untold : (f h : ℕ) → get_or (replicate 8 None) f None ≡ Some h → ⊥
 untold f h q =
     elim (cases_lt f 8) [
-      | inl l ↦ let n = get_or-replicate {A = Option ℕ} 8 f None None l in let z : ◌≡◌ {A = ℕ} 0 1 = cc in omega arith
-      | inr l ↦ let n = get_or_past {X = Option ℕ} (replicate 8 None) f None l in let z : ◌≡◌ {A = ℕ} 0 1 = cc in omega arith
+      | inl l ↦ let n = get_or-replicate {A = Option ℕ} 8 f None None l in cc
+      | inr l ↦ let n = get_or_past {X = Option ℕ} (replicate 8 None) f None l in cc
     ]
 
 module _ (M : Meant) (means : Means M) where
@@ -81,26 +84,13 @@ module _ (M : Meant) (means : Means M) where
       let tc = eq-eqb c c refl in
       let te = eq-eqb e e refl in
       let del = st.delivered in
-      let handed_le : k.delivered ≤ k.length = let q = prefix_length M.applied (first M) (v.handed c) (v.list c) (i.own c) in let n : length (v.list c) ≡ k.length = ap length (sym st.list) ∙ len in omega arith in
+      let handed_le : k.delivered ≤ k.length = let q = prefix_length M.applied (first M) (v.handed c) (v.list c) (i.own c) in let n = length_list M t s v c z b in omega arith in
       let es_is : es ≡ drop (length (v.handed c)) (v.list c) =
       part_of_list t.entries (c * 64) k.delivered k.length k.length handed_le (omega arith)
       ∙ ap (λ (ys : List (Entry M.Update)). drop k.delivered ys) (take_all k.length xs (omega arith) ∙ st.list) ∙ ap (λ (n : ℕ). drop n (v.list c)) del in
       let fits : (e - 1) * 64 + length xs ≤ length t.openings = omega arith in
       let apart : (e' : ℕ) → v.opened e' ≡ true → (e' ≡ e → ⊥) = λ e' o q. shut (rw q at o) in
-      let zu = seen_by M t u s v w i g z refl
-      (record {
-        started = refl;
-        controllers = length-set t.controllers c (leading k e m);
-        seats = refl;
-        lengths = length-set t.lengths (e - 1) (length xs);
-        entries = refl;
-        openings = length_over t.openings xs ((e - 1) * 64) fits;
-        committed = refl;
-        speculative = length-set t.speculative c x;
-        envelopes = refl;
-        few = z.few;
-      })
-      (stands_set M t u s v w c (leading k e m) i g z b refl
+      let zu = seen_set M t u s v w c (leading k e m) i g z b refl refl (simp (length-set, length_over t.openings xs ((e - 1) * 64) fits) refl)
       (record {
         epoch = simp tc;
         promise = st.promise;
@@ -116,17 +106,7 @@ module _ (M : Meant) (means : Means M) where
           told = λ f h q. absurd (untold f h q);
         };
       })
-      (λ d db ne. let td = ne_eqb d c ne in record {
-        entries = refl;
-        committed = refl;
-        speculative = get_or-set_other t.speculative c d x M.opening ne;
-        epoch = simp td;
-        promise = refl;
-        list = refl;
-        handed = refl;
-        meant = refl;
-        guessed = simp td;
-      }))
+      (λ d db ne. let td = ne_eqb d c ne in simp (get_or-set_other t.speculative c d x M.opening ne, td) refl)
       (λ e' o'. elim (cases_eq e' e) [
         | inl q ↦
             let tq = eq-eqb e' e q in
@@ -143,17 +123,11 @@ module _ (M : Meant) (means : Means M) where
             ∙ part_over_apart t.openings xs ((e - 1) * 64) ((e' - 1) * 64) n fits (omega arith) (elim (cases_lt e' e) [ inl y ↦ inl (omega arith) | inr y ↦ inr (omega arith) ])
             ∙ z.opened e' o)
       ])
-      (λ e' o'. elim (cases_eq e' e) [
-        | inl q ↦ let same_len = get_or-set_same t.lengths (e - 1) (length xs) 0 (omega arith) in rw q (omega arith)
-        | inr d ↦
-            let tq = ne_eqb e' e d in
-            let o : v.opened e' ≡ true = simp tq at o' in
-            let rng = i.opens e' o in
-            let r0 = rng.0 in
-            let same_len = get_or-set_other t.lengths (e - 1) (e' - 1) (length xs) 0 (λ q. d (omega arith)) in
-            let sh = z.short e' o in omega arith
-      ])
-      (bag_later M t s v w i g z) (seats_later M t s v w g z) in
+      (λ e' o'.
+      let rng = i.opens e' in let sh = z.short e' in
+      let same_len = get_or-set_same t.lengths (e - 1) (length xs) 0 (omega arith) in
+      let other_len = get_or-set_other t.lengths (e - 1) (e' - 1) (length xs) 0 in
+      grind (arith, nat_tests)) in
       record {
         safe = safe;
         grown = g;
@@ -188,20 +162,7 @@ module _ (M : Meant) (means : Means M) where
       let env : Envelope M.Update = record { sender = c; to = only sender; message = Held e n c } in
       let tc = eq-eqb c c refl in
       let te = eq-eqb e e refl in
-      let zu = seen_by M t u s v w i g z refl
-      (record {
-        started = refl;
-        controllers = length-set t.controllers c (following k e n);
-        seats = refl;
-        lengths = refl;
-        entries = length_over t.entries xs (c * 64) fits;
-        openings = refl;
-        committed = refl;
-        speculative = refl;
-        envelopes = refl;
-        few = z.few;
-      })
-      (stands_set M t u s v w c (following k e n) i g z b refl
+      let zu = seen_set M t u s v w c (following k e n) i g z b refl refl (simp (length-set, length_over t.entries xs (c * 64) fits) refl)
       (record {
         epoch = simp tc;
         promise = simp tc;
@@ -216,18 +177,8 @@ module _ (M : Meant) (means : Means M) where
       let td = ne_eqb d c ne in
       let q = z.stands d db in
       let qr = q.room in
-      record {
-        entries = part_over_apart t.entries xs (c * 64) (d * 64) (at M t d).length fits (omega arith) (elim (cases_lt d c) [ inl y ↦ inl (omega arith) | inr y ↦ inr (let m : c < d = elim (cases_lt c d) [ inl x ↦ x | inr x ↦ absurd (ne (omega arith)) ] in omega arith) ]);
-        committed = refl;
-        speculative = refl;
-        epoch = simp td;
-        promise = simp td;
-        list = simp td;
-        handed = refl;
-        meant = refl;
-        guessed = refl;
-      }))
-      z.opened z.short (bag_later M t s v w i g z) (seats_later M t s v w g z) in
+      simp (part_over_apart t.entries xs (c * 64) (d * 64) (at M t d).length fits (omega arith) (elim (cases_lt d c) [ inl y ↦ inl (omega arith) | inr y ↦ inr (let m : c < d = elim (cases_lt c d) [ inl x ↦ x | inr x ↦ absurd (ne (omega arith)) ] in omega arith) ]), td) refl)
+      z.opened z.short in
       record {
         safe = safe;
         grown = g;

@@ -1,8 +1,9 @@
 -- Order: the leader makes an entry.
-use Rattle.std.proofs.Common.{◌≡◌, ℕ, zero, suc, ◌+◌, ◌*◌, ◌<◌, Bool, true, false, cond, eqb, ltb, List, [], ◌∷◌, ◌++◌, length, get_or, Some, Ok, Err, Result, sym, refl, ap, ◌∙◌, subst, inl, inr, arith}
+use Rattle.std.proofs.Common.{◌≡◌, ℕ, ◌+◌, ◌*◌, ◌<◌, Bool, true, false, cond, eqb, ltb, List, [], ◌∷◌, ◌++◌, length, get_or, Some, Ok, Err, Result, sym, refl, ap, ◌∙◌, arith}
 use Rattle.std.specs.List.{slice_get}
-use Rattle.std.proofs.lemmas.Bool.{cases_lt, cases_Bool, ltb-true, eq-eqb, ne_eqb}
+use Rattle.std.proofs.lemmas.Bool.{ltb-true, eq-eqb, ne_eqb}
 use Rattle.std.proofs.lemmas.List.{length-set, get_or-set_same, get_or-set_other, append-nil}
+use Rattle.std.proofs.lemmas.Map.Keys.{any_passes_from_place}
 use Rattle.service.specs.Meant.{Meant, Means}
 use Rattle.service.specs.declared.ServiceFault.{ServiceFault}
 use Rattle.service.specs.declared.Worked.{Worked}
@@ -15,27 +16,25 @@ use Rattle.machine.specs.declared.controller.Role.{Role}
 use Rattle.machine.specs.declared.controller.Role.TheVariants.{Fresh, Follower, Leader}
 use Rattle.machine.specs.declared.envelope.Envelope.{Envelope}
 use Rattle.machine.specs.declared.envelope.Message.TheVariants.{Accept}
-use Rattle.machine.specs.declared.fault.Fault.TheVariants.{ShortTables, WrongState, SerialTaken, ListFull, BagFull}
+use Rattle.machine.specs.declared.fault.Fault.TheVariants.{WrongState, SerialTaken, ListFull, BagFull}
 use Rattle.machine.specs.Faults.{of_service}
 use Rattle.machine.specs.Rows.{longer}
-use Rattle.machine.specs.Machine.{Here, at, stretch, absent, space, long_tables, refuse, grant, ask, unless, put_controller, put_entry, put_speculative, entered, worked_out, led, ordered}
+use Rattle.machine.specs.Machine.{Here, at, stretch, space, refuse, grant, ask, put_controller, put_entry, put_speculative, entered, worked_out, led, ordered}
 use Rattle.machine.specs.Changes.{order}
 use Rattle.protocol.proofs.View.{order as make}
-use Rattle.protocol.proofs.Lists.{push_tells, prefix_length}
+use Rattle.protocol.proofs.Lists.{push_last, prefix_length}
 use Rattle.protocol.proofs.OrderKeeps.{order_keeps}
 use Rattle.protocol.proofs.Later.{order_later}
-use Rattle.law.proofs.Seen.{Sight, Safe, Grown, Plays, Leading, Seen, first}
-use Rattle.law.proofs.Tables.{length_part, part_apart, part_push}
-use Rattle.law.proofs.Frames.{asked, unrefused, bag_later, seats_later, plays_later}
-use Rattle.law.proofs.Moves.{seen_by, stands_set, seen_send}
+use Rattle.law.proofs.Seen.{Sight, Safe, Grown, Seen, first, plays_as}
+use Rattle.law.proofs.Tables.{stretch_apart, part_push}
+use Rattle.law.proofs.Frames.{asked, past_absence, plays_later, length_list}
+use Rattle.law.proofs.Moves.{seen_set, seen_send}
 use Rattle.law.proofs.Goals.{Makes, Goes, refused_goes}
 use Rattle.law.proofs.Quiet.{present, spaced}
 
 -- a serial that a list does not hold is at none of its places
 pub not_held : {U : Type 0} (xs : List (Entry U)) (s k : ℕ) (y : Entry U) → holds xs s ≡ false → slice_get xs k ≡ Some y → y.serial ≡ s → ⊥
-not_held [] s k y h n e = let z : ◌≡◌ {A = ℕ} 0 1 = cc in omega arith
-not_held (x ∷ xs) s zero y h n e = let q : x ≡ y = cc in let r : x.serial ≡ s = ap (λ z. z.serial) q ∙ e in let t = eq-eqb x.serial s r in let z : true ≡ false = simp t at h in let w : ◌≡◌ {A = ℕ} 0 1 = cc in omega arith
-not_held (x ∷ xs) s (suc k) y h n e = elim (cases_Bool (eqb x.serial s)) [ inl t ↦ let z : true ≡ false = simp t at h in let w : ◌≡◌ {A = ℕ} 0 1 = cc in omega arith | inr t ↦ not_held xs s k y (simp t at h) n e ]
+not_held xs s k y h n e = let t = any_passes_from_place (λ x. eqb x.serial s) xs k y n (eq-eqb y.serial s e) in let z : true ≡ false = sym t ∙ h in cc
 
 module _ (M : Meant) (means : Means M) where
   -- the floor after an entry, before ACCEPT is sent
@@ -47,7 +46,7 @@ module _ (M : Meant) (means : Means M) where
   entered_seen t s v c l e i z b r room ee safe =
       let k = at M t c in
       let p = z.stands c b in
-      let lead : Leading M v c l = subst (λ (x : Role). Plays M v c x) r p.role in
+      let lead = plays_as M t s v c (Leader l) z b r in
       let w = make M.applied (first M) v c e in
       let g : Grown M v w = order_later M.applied (first M) v c e in
       let x = M.next (get_or t.speculative c M.opening) e.update in
@@ -55,20 +54,7 @@ module _ (M : Meant) (means : Means M) where
       let big = z.entries in
       let spec = z.speculative in
       let cc' = eq-eqb c c refl in
-      seen_by M t u s v w i g z refl
-      (record {
-        started = refl;
-        controllers = length-set t.controllers c (longer k);
-        seats = refl;
-        lengths = refl;
-        entries = length-set t.entries (c * 64 + k.length) e;
-        openings = refl;
-        committed = refl;
-        speculative = length-set t.speculative c x;
-        envelopes = refl;
-        few = z.few;
-      })
-      (stands_set M t u s v w c (longer k) i g z b refl
+      seen_set M t u s v w c (longer k) i g z b refl refl (simp length-set refl)
       (record {
         epoch = p.epoch;
         promise = p.promise;
@@ -79,23 +65,8 @@ module _ (M : Meant) (means : Means M) where
         speculative = λ q pos. simp cc' (ap M.mean (get_or-set_same t.speculative c x M.opening (omega arith)) ∙ means (get_or t.speculative c M.opening) e.update ∙ ap (λ (m : M.Meaning). M.applied m e.update) (p.speculative q pos));
         role = plays_later M v w c i g refl k.role p.role;
       })
-      (λ d db n.
-      let t' = ne_eqb d c n in
-      let q = z.stands d db in
-      let qr = q.room in
-      record {
-        entries = part_apart t.entries (d * 64) (at M t d).length (c * 64 + k.length) e (omega arith) (elim (cases_lt c d) [ inl lt ↦ inl (omega arith) | inr ge ↦ inr (let m : d < c = elim (cases_lt d c) [ inl y ↦ y | inr y ↦ absurd (n (omega arith)) ] in omega arith) ]);
-        committed = refl;
-        speculative = get_or-set_other t.speculative c d x M.opening n;
-        epoch = refl;
-        promise = refl;
-        list = simp t';
-        handed = refl;
-        meant = refl;
-        guessed = simp t';
-      }))
+      (λ d db n. let t' = ne_eqb d c n in simp (stretch_apart t.entries c d (at M t d).length k.length e n db z.entries (z.stands d db).room room, get_or-set_other t.speculative c d x M.opening n, t') refl)
       z.opened z.short
-      (bag_later M t s v w i g z) (seats_later M t s v w g z)
 
   -- what the ACCEPT of a new entry says
   accept_says : (t : Here M) (s : Configured) (v : Sight M) (c : ℕ) (l : Lead) (e : Entry M.Update) → Safe M v → Seen M t s v → (b : c < 8) → (at M t c).role ≡ Leader l
@@ -104,16 +75,12 @@ module _ (M : Meant) (means : Means M) where
   accept_says t s v c l e i z b r =
       let k = at M t c in
       let p = z.stands c b in
-      let lead : Leading M v c l = subst (λ (x : Role). Plays M v c x) r p.role in
+      let lead = plays_as M t s v c (Leader l) z b r in
       let q = p.epoch in
       let g = v.grown (v.epoch c) in
-      let len : k.length ≡ length g = sym (length_part t.entries (c * 64) k.length (let b1 = z.entries in let m = p.room in omega arith)) ∙ ap length (p.list ∙ i.leads c lead.some lead.leads) in
+      let len : k.length ≡ length g = length_list M t s v c z b ∙ ap length (i.leads c lead.some lead.leads) in
       let te = eq-eqb k.epoch (v.epoch c) q in
-      (rw q (i.lives c lead.some), simp te (elim (push_tells g e k.length) [ inl w ↦ w.0 | inr w ↦ absurd (w.1 len) ]))
-
-  made_handed : (v : Sight M) (c : ℕ) (e : Entry M.Update) (d : ℕ) → (make M.applied (first M) v c e).handed d ≡ v.handed d ++ []
-  unfolding make
-  made_handed v c e d = sym (append-nil (v.handed d))
+      (rw q (i.lives c lead.some), simp te (push_last g e k.length len))
 
   -- what a granted order makes
   makes : (t : Here M) (s : Configured) (v : Sight M) (c : ℕ) (l : Lead) (e : Entry M.Update) → Safe M v → Seen M t s v → (b : c < 8) → (at M t c).role ≡ Leader l → e.epoch ≡ v.epoch c
@@ -121,7 +88,7 @@ module _ (M : Meant) (means : Means M) where
   unfolding make
   makes t s v c l e i z b r ee =
       let p = z.stands c b in
-      let lead : Leading M v c l = subst (λ (x : Role). Plays M v c x) r p.role in
+      let lead = plays_as M t s v c (Leader l) z b r in
       let g = v.grown (v.epoch c) in
       let lg : v.list c ≡ g = i.leads c lead.some lead.leads in
       let tc = eq-eqb c c refl in
@@ -133,7 +100,7 @@ module _ (M : Meant) (means : Means M) where
         list = simp tc;
         epoch = ee;
         opened = o;
-        place = simp te (rw lg (elim (push_tells g e (length g)) [ inl w ↦ w.0 | inr w ↦ absurd (w.1 refl) ]));
+        place = simp te (rw lg (push_last g e (length g) refl));
         found = let tl = eq-eqb (length (v.list c)) (length g) (ap length lg) in simp (te, tl);
         after = let q = prefix_length M.applied (first M) (v.opening (v.epoch c)) g (i.grows (v.epoch c) o) in rw lg q;
         leads = lead.leads;
@@ -141,10 +108,10 @@ module _ (M : Meant) (means : Means M) where
       }
 
   pub order_goes : (t : Here M) (s : Configured) (v : Sight M) (c n : ℕ) (m : M.Command) → Safe M v → Seen M t s v → Goes M (order c n m) t s v (ordered M t c n m)
+  unfolding make
   order_goes t s v c n m i z =
       let no = refused_goes M (order c n m) t s v i z in
-      asked M (Goes M (order c n m) t s v) t (long_tables M t) ShortTables (unless M t (absent t.started t.controllers c) (led M t c n m (at M t c) (at M t c).role)) no λ _.
-      unrefused M (Goes M (order c n m) t s v) t (absent t.started t.controllers c) (led M t c n m (at M t c) (at M t c).role) no λ h.
+      past_absence M (Goes M (order c n m) t s v) t c (led M t c n m (at M t c) (at M t c).role) no λ h.
       by (present t.started t.controllers c h) (at M t c).role refl
     where
       works : c < 8 → (l : Lead) → (at M t c).role ≡ Leader l → (at M t c).length < 64 → holds (stretch t.entries c (at M t c).length) n ≡ false
@@ -154,7 +121,7 @@ module _ (M : Meant) (means : Means M) where
           let no = refused_goes M (order c n m) t s v i z in
           let k = at M t c in
           let p = z.stands c b in
-          let lead : Leading M v c l = subst (λ (x : Role). Plays M v c x) q p.role in
+          let lead = plays_as M t s v c (Leader l) z b q in
           let e : Entry M.Update = record { epoch = k.epoch; serial = n; update = w.update } in
           let x = M.next (get_or t.speculative c M.opening) w.update in
           let d = grant M w.reply (entered M t c k l e x) in
@@ -172,9 +139,10 @@ module _ (M : Meant) (means : Means M) where
               seen = seen_send M u s (make M.applied (first M) v c e) env safe zu (spaced t.sent (without l.members c) sp) (accept_says t s v c l e i z b q);
             };
             fact = record {
-              handed = made_handed v c e;
+              handed = λ d'. sym (append-nil (v.handed d'));
               opened = tt;
               made = λ a r. makes t s v c l e i z b q p.epoch;
+              secured = tt;
             };
           }
 

@@ -1,9 +1,10 @@
 -- A started floor, its tables and its configurations, as a view of the protocol.
-use Rattle.std.proofs.Common.{◌≡◌, ℕ, ◌-◌, ◌<◌, ◌≤◌, Bool, true, false, length, get_or, Some, None, sym, ◌∙◌, arith}
+use Rattle.std.proofs.Common.{◌≡◌, ℕ, ◌-◌, ◌<◌, ◌≤◌, Bool, true, false, List, length, get_or, Some, None, sym, ◌∙◌, subst, arith}
 use Rattle.std.specs.List.{slice_get}
 use Rattle.service.specs.Meant.{Meant}
 use Rattle.config.specs.Members.{member}
 use Rattle.config.specs.Configured.{Configured, no_row}
+use Rattle.config.specs.declared.row.ConfigRow.{ConfigRow}
 use Rattle.machine.specs.declared.controller.Controller.{Controller}
 use Rattle.machine.specs.declared.controller.Lead.{Lead}
 use Rattle.machine.specs.declared.controller.Role.{Role}
@@ -16,6 +17,30 @@ use Rattle.machine.specs.Machine.{Here, at, stretch, opening_of, no_envelope}
 use Rattle.protocol.proofs.View.{View, Nos, AllHeld, Fit}
 use Rattle.protocol.proofs.Inv.{Inv}
 use Rattle.protocol.proofs.Later.{Later, nos_later, fit_later, held_later}
+
+-- whether a floor is started, and the lengths of its tables
+pub record Sizes : Type 0 where
+  pub started : Bool
+  pub controllers : ℕ
+  pub seats : ℕ
+  pub lengths : ℕ
+  pub entries : ℕ
+  pub openings : ℕ
+  pub committed : ℕ
+  pub speculative : ℕ
+  pub envelopes : ℕ
+
+-- a started floor's tables have room
+pub record Roomy (x : Sizes) : Type 0 where
+  pub started : x.started ≡ true
+  pub eight : x.controllers ≡ 8
+  pub four : x.seats ≡ 4
+  pub epochs : x.lengths ≡ 32
+  pub entries : 512 ≤ x.entries
+  pub openings : 2048 ≤ x.openings
+  pub committed : 8 ≤ x.committed
+  pub speculative : 8 ≤ x.speculative
+  pub envelopes : 1024 ≤ x.envelopes
 
 module _ (M : Meant) where
   -- a view of a floor of this service: its entries' updates, and its states' meanings
@@ -78,28 +103,43 @@ module _ (M : Meant) where
     pub speculative : v.leader (v.epoch c) ≡ c → 0 < v.epoch c → M.mean (get_or t.speculative c M.opening) ≡ v.speculative c
     pub role : Plays v c k.role
 
+  abbrev pub sizes : Here M → Sizes
+  sizes t = record {
+    started = t.started;
+    controllers = length t.controllers;
+    seats = length t.seats;
+    lengths = length t.lengths;
+    entries = length t.entries;
+    openings = length t.openings;
+    committed = length t.committed;
+    speculative = length t.speculative;
+    envelopes = length t.envelopes;
+  }
+
+  -- the configurations that are stored
+  pub record Stored (all : List ConfigRow) (room : ℕ) (v : Sight) : Type 0 where
+    pub last : length all ≡ v.last
+    pub some : 1 ≤ v.last
+    pub limit : room ≤ 32
+    pub most : v.last ≤ 32
+    pub members : (e f : ℕ) → 1 ≤ e → e ≤ v.last → member (get_or all (e - 1) no_row).members f ≡ v.member e f
+    pub leader : (e : ℕ) → 1 ≤ e → e ≤ v.last → (get_or all (e - 1) no_row).leader ≡ v.leader e
+
   pub record Seen (t : Here M) (s : Configured) (v : Sight) : Type 0 where
-    pub started : t.started ≡ true
-    pub eight : length t.controllers ≡ 8
-    pub four : length t.seats ≡ 4
-    pub epochs : length t.lengths ≡ 32
-    pub entries : 512 ≤ length t.entries
-    pub openings : 2048 ≤ length t.openings
-    pub committed : 8 ≤ length t.committed
-    pub speculative : 8 ≤ length t.speculative
-    pub envelopes : 1024 ≤ length t.envelopes
+    pub roomy : Roomy (sizes t)
+    pub open roomy use *
     pub few : t.sent ≤ 1024
     pub stands : (c : ℕ) → c < 8 → Stands t v c (at M t c)
-    pub last : length s.all ≡ v.last
-    pub some : 1 ≤ v.last
-    pub limit : s.limit ≤ 32
-    pub most : v.last ≤ 32
-    pub members : (e f : ℕ) → 1 ≤ e → e ≤ v.last → member (get_or s.all (e - 1) no_row).members f ≡ v.member e f
-    pub leader : (e : ℕ) → 1 ≤ e → e ≤ v.last → (get_or s.all (e - 1) no_row).leader ≡ v.leader e
+    pub stored : Stored s.all s.limit v
+    pub open stored use *
     pub opened : (e : ℕ) → v.opened e ≡ true → opening_of t.openings e (get_or t.lengths (e - 1) 0) ≡ v.opening e
     pub short : (e : ℕ) → v.opened e ≡ true → get_or t.lengths (e - 1) 0 ≤ 64
     pub bag : (i : ℕ) → i < t.sent → Says v (get_or t.envelopes i no_envelope).to (get_or t.envelopes i no_envelope).message
     pub seats : (i : ℕ) → i < 4 → Sits v (get_or t.seats i Idle)
+
+  -- what a controller's role says, by its kind
+  pub plays_as : (t : Here M) (s : Configured) (v : Sight) (c : ℕ) (r : Role) → Seen t s v → c < 8 → (at M t c).role ≡ r → Plays v c r
+  plays_as t s v c r z b q = subst (λ (x : Role). Plays v c x) q (z.stands c b).role
 
   -- what was said stays true
   pub says_later : (v w : Sight) → Safe v → Grown v w → (to : ℕ) (m : Message M.Update) → Says v to m → Says w to m

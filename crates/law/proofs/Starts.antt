@@ -1,9 +1,9 @@
 -- Start and propose, which store a configuration; and where every call leads.
-use Rattle.std.proofs.Common.{◌≡◌, ℕ, zero, suc, ◌+◌, ◌-◌, ◌<◌, ◌≤◌, Bool, true, false, cond, eqb, ltb, leb, ◌⊎◌, List, [], ◌∷◌, ◌++◌, map, length, get_or, drop, replicate, Some, None, Ok, Err, Option, Result, sym, refl, ap, ◌∙◌, subst, inl, inr, arith}
-use Rattle.std.specs.List.{range_with_len}
+use Rattle.std.proofs.Common.{◌≡◌, ℕ, ◌+◌, ◌-◌, ◌<◌, ◌≤◌, Bool, true, false, cond, eqb, ltb, leb, ◌⊎◌, List, [], ◌∷◌, ◌++◌, length, get_or, drop, replicate, Some, None, Ok, Err, Option, Result, sym, refl, ap, ◌∙◌, subst, inl, inr, arith}
 use Rattle.std.proofs.lemmas.Bool.{cases_lt, cases_eq, cases_Bool, ltb-true, leb-true, and_parts, eq-eqb, ne_eqb}
 use Rattle.std.proofs.lemmas.Bool.Decides.{nat_tests}
-use Rattle.std.proofs.lemmas.List.{length-append, append-nil, get_or_append_left, get_or-append_right}
+use Rattle.std.proofs.lemmas.List.{length-append, append-nil, get_or_append_left, get_or-append_right, get_or-replicate, get_or_past}
+use Rattle.std.proofs.lemmas.List.FromFn.{get_or-map-range_with_len}
 use Rattle.service.specs.Meant.{Meant}
 use Rattle.config.specs.Members.{member, only, other}
 use Rattle.config.specs.Made.{made}
@@ -30,16 +30,13 @@ use Rattle.law.proofs.Seen.{Sight, Safe, Grown, Says, Sits, Plays, Stands, Seen,
 use Rattle.law.proofs.Goals.{Fact, Goes, fact_refused}
 use Rattle.law.proofs.Frames.{stands_later, bag_later, seats_later}
 use Rattle.law.proofs.Moves.{seen_seat, seen_post}
-use Rattle.law.proofs.Quiet.{added, empty_set}
+use Rattle.law.proofs.Quiet.{added, empty_set, member_lt}
 
 -- a set with one controller has that one alone
 pub only_one : (l c : ℕ) → l < 8 → member (only l) c ≡ true → c ≡ l
 only_one l c b h =
     let none : member 0 l ≡ false = elim (cases_Bool (member 0 l)) [ inl q ↦ absurd (empty_set l q) | inr q ↦ q ] in
     elim (added 0 l c b none (subst (λ (m : ℕ). member m c ≡ true) (omega arith) h)) [ inl q ↦ q | inr q ↦ absurd (empty_set c q) ]
-
-pub member_below : (m c : ℕ) → member m c ≡ true → c < 8
-member_below m c h = grind (arith, nat_tests)
 
 -- what makes a configuration is lawful
 pub made_lawful : (m l : ℕ) (k : ConfigRow) → made m l ≡ Some k → member k.members k.leader ≡ true
@@ -49,78 +46,34 @@ made_lawful m l k h = grind (arith, nat_tests)
 pub store_granted : (s : Configured) (e n : ℕ) → store_answer s e ≡ Ok n → (e ≡ length s.all) × (length s.all < s.limit)
 store_granted s e n h = (grind (arith, nat_tests), grind (arith, nat_tests))
 
--- what stands at each of eight places
-eight_places : {A : Type 0} (f : ℕ → A) (d : A) (c : ℕ) → c < 8 → get_or (map f (range_with_len 0 8)) c d ≡ f c
-eight_places f d zero h = refl
-eight_places f d (suc zero) h = refl
-eight_places f d (suc (suc zero)) h = refl
-eight_places f d (suc (suc (suc zero))) h = refl
-eight_places f d (suc (suc (suc (suc zero)))) h = refl
-eight_places f d (suc (suc (suc (suc (suc zero))))) h = refl
-eight_places f d (suc (suc (suc (suc (suc (suc zero)))))) h = refl
-eight_places f d (suc (suc (suc (suc (suc (suc (suc zero))))))) h = refl
-eight_places f d (suc (suc (suc (suc (suc (suc (suc (suc c)))))))) h = absurd (omega arith)
-
-replicated : {A : Type 0} (n c : ℕ) (x d : A) → c < n → get_or (replicate n x) c d ≡ x
-replicated zero c x d h = absurd (omega arith)
-replicated (suc n) zero x d h = refl
-replicated (suc n) (suc c) x d h = replicated n c x d (omega arith)
-
-length_replicated : {A : Type 0} (n : ℕ) (x : A) → length (replicate n x) ≡ n
-length_replicated zero x = refl
-length_replicated (suc n) x = ap suc (length_replicated n x)
-
 first_states : {X : Type 0} (x d : X) (xs : List X) (c : ℕ) → c < 8 → get_or (all_first x xs) c d ≡ x
 unfolding all_first
-first_states x d xs c h = get_or_append_left (replicate 8 x) (drop 8 xs) d c h ∙ replicated 8 c x d h
+first_states x d xs c h = get_or_append_left (replicate 8 x) (drop 8 xs) d c h ∙ get_or-replicate 8 c x d h
 
 first_states_length : {X : Type 0} (x : X) (xs : List X) → 8 ≤ length (all_first x xs)
 unfolding all_first
 first_states_length x xs = simp length-append (omega arith)
 
-joined_at : (m l : ℕ) (ks : List Controller) (c : ℕ) → c < 8 → get_or (all_joined m l ks) c no_controller ≡ joined m l c (get_or ks c no_controller)
-unfolding all_joined
-joined_at m l ks c h = eight_places (λ c'. joined m l c' (get_or ks c' no_controller)) no_controller c h
-
-joined_length : (m l : ℕ) (ks : List Controller) → length (all_joined m l ks) ≡ 8
-unfolding all_joined
-joined_length m l ks = refl
-
-get_or_past : {A : Type 0} (xs : List A) (n : ℕ) (d : A) → length xs ≤ n → get_or xs n d ≡ d
-get_or_past [] n d h = refl
-get_or_past (x ∷ xs) zero d h = absurd (omega arith)
-get_or_past (x ∷ xs) (suc n) d h = get_or_past xs n d (omega arith)
-
-zero_told : (b : Bool) (h : ℕ) → cond {A = Option ℕ} b (Some 0) None ≡ Some h → h ≡ 0
-zero_told true h q = let e : 0 ≡ h = cc in sym e
-zero_told false h q = let z : ◌≡◌ {A = ℕ} 0 1 = cc in absurd (omega arith)
-
 -- the first leader was told nothing but 0
 first_told : (m l f h : ℕ) → get_or (first_lead m l).told f None ≡ Some h → h ≡ 0
 first_told m l f h q =
     elim (cases_lt f 8) [
-      | inl b ↦ zero_told (other m l f) h (sym (eight_places (λ (g : ℕ). cond {A = Option ℕ} (other m l g) (Some 0) None) None f b) ∙ q)
-      | inr b ↦ let e : get_or (first_lead m l).told f None ≡ None = get_or_past (first_lead m l).told f None b in let z : ◌≡◌ {A = ℕ} 0 1 = cc in absurd (omega arith)
+      | inl b ↦ let e = get_or-map-range_with_len (λ (g : ℕ). cond {A = Option ℕ} (other m l g) (Some 0) None) 0 8 f f None b (omega arith) in grind (arith, nat_tests)
+      | inr b ↦ absurd (cc (get_or_past (first_lead m l).told f None b))
     ]
 
 module _ (M : Meant) where
   -- the view of a floor on which nothing has happened
   abbrev pub nothing : Sight M
   nothing = record {
-    last = 0;
-    member = λ e f. false;
-    leader = λ e. 0;
+    configs = record { last = 0; member = λ e f. false; leader = λ e. 0 };
+    epochs = record { opened = λ e. false; opening = λ e. []; grown = λ e. []; parent = λ e. 0; found = λ e k. first M };
     epoch = λ c. 0;
     promise = λ c. 0;
     list = λ c. [];
     committed = λ c. first M;
     speculative = λ c. first M;
     handed = λ c. [];
-    opened = λ e. false;
-    opening = λ e. [];
-    grown = λ e. [];
-    parent = λ e. 0;
-    found = λ e k. first M;
     held = λ e f. 0;
     denied = λ n t f. false;
   }
@@ -150,6 +103,12 @@ module _ (M : Meant) where
   pub refusal_leads : (a : Act M.Command) (t : Here M) (s : Configured) (v : Sight M) → Known t s v → (g : Fault) → Leads a t v (with_config M (refuse M t g) s)
   refusal_leads a t s v k g = record { view = v; known = k; grown = later_same M.applied (first M) v; fact = fact_refused M t v a g }
 
+  -- a question of start or propose is answered no, or yes
+  pub asks_leads : (a : Act M.Command) (t : Here M) (s : Configured) (v : Sight M) → Known t s v → (b : Bool) (d : Both M) (f : Fault) → (b ≡ true → Leads a t v d)
+      → Leads a t v (cond b d (with_config M (refuse M t f) s))
+  asks_leads a t s v k true d f go = go refl
+  asks_leads a t s v k false d f go = refusal_leads a t s v k f
+
   pub goes_leads : (a : Act M.Command) (t : Here M) (s : Configured) (v : Sight M) (d : After M) → Goes M a t s v d → Leads a t v (with_config M d s)
   goes_leads a t s v d g = record { view = g.view; known = inr (g.to.safe, g.to.seen); grown = g.to.grown; fact = g.fact }
 
@@ -168,29 +127,17 @@ module _ (M : Meant) where
       let row : (e : ℕ) → e ≡ v.last + 1 → get_or (s.all ++ k ∷ []) (e - 1) no_row ≡ k = λ e q. ap (λ (j : ℕ). get_or (s.all ++ k ∷ []) j no_row) (omega arith) ∙ at_end in
       let old_row : (e : ℕ) → 1 ≤ e → e ≤ v.last → get_or (s.all ++ k ∷ []) (e - 1) no_row ≡ get_or s.all (e - 1) no_row = λ e a b. get_or_append_left s.all (k ∷ []) no_row (e - 1) (omega arith) in
       record {
-        started = z.started;
-        eight = z.eight;
-        four = z.four;
-        epochs = z.epochs;
-        entries = z.entries;
-        openings = z.openings;
-        committed = z.committed;
-        speculative = z.speculative;
-        envelopes = z.envelopes;
+        roomy = z.roomy;
         few = z.few;
-        stands = λ c b. stands_later M t t v w c (at M t c) i g (record { entries = refl; committed = refl; speculative = refl; epoch = refl; promise = refl; list = refl; handed = refl; meant = refl; guessed = refl }) (z.stands c b);
-        last = simp length-append (omega arith);
-        some = omega arith;
-        limit = z.limit;
-        most = omega arith;
-        members = λ e f a b. elim (cases_eq e (v.last + 1)) [
-          | inl q ↦ let te = eq-eqb e (v.last + 1) q in simp te (ap (λ (r : ConfigRow). member r.members f) (row e q))
-          | inr d ↦ let te = ne_eqb e (v.last + 1) d in simp te (ap (λ (r : ConfigRow). member r.members f) (old_row e a (omega arith)) ∙ z.members e f a (omega arith))
-        ];
-        leader = λ e a b. elim (cases_eq e (v.last + 1)) [
-          | inl q ↦ let te = eq-eqb e (v.last + 1) q in simp te (ap (λ (r : ConfigRow). r.leader) (row e q))
-          | inr d ↦ let te = ne_eqb e (v.last + 1) d in simp te (ap (λ (r : ConfigRow). r.leader) (old_row e a (omega arith)) ∙ z.leader e a (omega arith))
-        ];
+        stands = λ c b. stands_later M t t v w c (at M t c) i g refl (z.stands c b);
+        stored = record {
+          last = simp length-append (omega arith);
+          some = omega arith;
+          limit = z.limit;
+          most = omega arith;
+          members = λ e f a b. let new = row e in let old = old_row e a in let q = z.members e f a in grind (arith, nat_tests);
+          leader = λ e a b. let new = row e in let old = old_row e a in let q = z.leader e a in grind (arith, nat_tests);
+        };
         opened = z.opened;
         short = z.short;
         bag = bag_later M t s v w i g z;
@@ -204,26 +151,15 @@ module _ (M : Meant) where
       let te = eq-eqb (v.last + 1) (v.last + 1) refl in
       (omega arith, omega arith, λ f. simp te, λ c h. simp te (sym (only_one k.leader c b h)))
 
-  stored_handed : (v : Sight M) (m : ℕ → Bool) (l d : ℕ) → (store M.applied (first M) v m l).handed d ≡ v.handed d ++ []
-  unfolding store
-  stored_handed v m l d = sym (append-nil (v.handed d))
-
-  begun_handed : (v : Sight M) (m : ℕ → Bool) (l d : ℕ) → (begun M.applied (first M) v m l).handed d ≡ v.handed d ++ []
-  unfolding begun
-  begun_handed v m l d = sym (append-nil (v.handed d))
-
   pub propose_leads : (t : Here M) (s : Configured) (v : Sight M) (j m l : ℕ) → Safe M v → Seen M t s v → Leads (propose j m l) t v (propose_of M t s j m l)
+  unfolding store
   propose_leads t s v j m l i z =
-      asks (long_tables M t) (cond t.started (cond (ltb j 4) (proposal M t s j (made m l)) (with_config M (refuse M t OutOfRange) s)) (with_config M (refuse M t NotStarted) s)) ShortTables λ _.
-      asks t.started (cond (ltb j 4) (proposal M t s j (made m l)) (with_config M (refuse M t OutOfRange) s)) NotStarted λ _.
-      asks (ltb j 4) (proposal M t s j (made m l)) OutOfRange λ b. row (ltb-true j 4 b) (made m l) refl
+      asks_leads (propose j m l) t s v (inr (i, z)) (long_tables M t) (cond t.started (cond (ltb j 4) (proposal M t s j (made m l)) (with_config M (refuse M t OutOfRange) s)) (with_config M (refuse M t NotStarted) s)) ShortTables λ _.
+      asks_leads (propose j m l) t s v (inr (i, z)) t.started (cond (ltb j 4) (proposal M t s j (made m l)) (with_config M (refuse M t OutOfRange) s)) NotStarted λ _.
+      asks_leads (propose j m l) t s v (inr (i, z)) (ltb j 4) (proposal M t s j (made m l)) OutOfRange λ b. row (ltb-true j 4 b) (made m l) refl
     where
       no : (g : Fault) → Leads (propose j m l) t v (with_config M (refuse M t g) s)
       no g = refusal_leads (propose j m l) t s v (inr (i, z)) g
-
-      asks : (b : Bool) (d : Both M) (f : Fault) → (b ≡ true → Leads (propose j m l) t v d) → Leads (propose j m l) t v (cond b d (with_config M (refuse M t f) s))
-      asks true d f go = go refl
-      asks false d f go = no f
 
       answers : j < 4 → t.sent < 1024 → (n : ℕ) (k : ConfigRow) → 1 ≤ n → 1 ≤ v.last → member k.members k.leader ≡ true → Fit M.applied (first M) v n k.leader
           → (r : Result ℕ ConfigFault) → store_answer s (n - 1) ≡ r → Leads (propose j m l) t v (proposed_with M t s j n k r)
@@ -240,20 +176,20 @@ module _ (M : Meant) where
           let env : Envelope M.Update = record { sender = j; to = only k.leader; message = NewConfig n k.members } in
           let zs = seen_stored t s v k i z g.1 in
           let zseat = seen_seat M t s' w j Idle safe zs jb tt in
-          let said : Says M w (only k.leader) (NewConfig n k.members) = subst (λ (y : ℕ). Says M w (only k.leader) (NewConfig y k.members)) (sym new) (newconfig_says v k some (member_below k.members k.leader law)) in
+          let said : Says M w (only k.leader) (NewConfig n k.members) = subst (λ (y : ℕ). Says M w (only k.leader) (NewConfig y k.members)) (sym new) (newconfig_says v k some (member_lt k.members k.leader law)) in
           let zpost = seen_post M (put_seat M t j Idle) s' w env safe zseat room said in
           record {
             view = w;
             known = inr (safe, subst (λ (c : Configured). Seen M (post M (put_seat M t j Idle) env) c w) (sym (rw q refl)) zpost);
             grown = store_later M.applied (first M) v (member k.members) k.leader;
-            fact = record { handed = stored_handed v (member k.members) k.leader; opened = tt; made = tt };
+            fact = record { handed = λ d. sym (append-nil (v.handed d)); opened = tt; made = tt; secured = tt };
           }
 
       seat : j < 4 → (k : ConfigRow) → member k.members k.leader ≡ true → (x : Seat) → Sits M v x → Leads (propose j m l) t v (proposing M t s j k x)
       seat jb k law Idle sits = no WrongState
       seat jb k law (Probing n g ys nay) sits =
-          asks (member ys k.leader) (cond (ltb t.sent 1024) (proposed_with M t s j n k (store_answer s (n - 1))) (with_config M (refuse M t BagFull) s)) WrongState λ heard.
-          asks (ltb t.sent 1024) (proposed_with M t s j n k (store_answer s (n - 1))) BagFull λ room.
+          asks_leads (propose j m l) t s v (inr (i, z)) (member ys k.leader) (cond (ltb t.sent 1024) (proposed_with M t s j n k (store_answer s (n - 1))) (with_config M (refuse M t BagFull) s)) WrongState λ heard.
+          asks_leads (propose j m l) t s v (inr (i, z)) (ltb t.sent 1024) (proposed_with M t s j n k (store_answer s (n - 1))) BagFull λ room.
           let a = sits.some in let b = sits.below in let c = sits.stored in
           answers jb (ltb-true t.sent 1024 room) n k (omega arith) (omega arith) law (sits.yes_heard k.leader heard) (store_answer s (n - 1)) refl
 
@@ -305,59 +241,60 @@ module _ (M : Meant) where
   -- the floor after a granted start
   first_seen : (t : Here M) (s : Configured) (k : ConfigRow) → New M t → Kept s → long_tables M t ≡ true → length s.all ≡ 0 → 0 < s.limit
       → Seen M (opened M t k) (record { all = s.all ++ k ∷ []; limit = s.limit; is_open = s.is_open }) (begun M.applied (first M) nothing (member k.members) k.leader)
-  unfolding begun
+  unfolding begun all_joined
   first_seen t s k n kept sizes none some =
       let a = and_parts (leb 512 (length t.entries)) _ sizes in
       let a2 = and_parts (leb 2048 (length t.openings)) _ a.1 in
       let a3 = and_parts (leb 8 (length t.committed)) _ a2.1 in
       let a4 = and_parts (leb 8 (length t.speculative)) (leb 1024 (length t.envelopes)) a3.1 in
-      let only_first : (e : ℕ) → cond (eqb e 1) true false ≡ true → e ≡ 1 = λ e o. elim (cases_eq e 1) [ inl q ↦ q | inr d ↦ let te = ne_eqb e 1 d in let y : false ≡ true = simp te at o in let z : ◌≡◌ {A = ℕ} 0 1 = cc in absurd (omega arith) ] in
+      let only_first : (e : ℕ) → cond (eqb e 1) true false ≡ true → e ≡ 1 = λ e o. grind (arith, nat_tests) in
       let at_end : (e : ℕ) → e ≡ 1 → get_or (s.all ++ k ∷ []) (e - 1) no_row ≡ k = λ e q.
       get_or-append_right s.all (k ∷ []) 0 (e - 1) no_row none (omega arith) ∙ ap (λ (j : ℕ). get_or (k ∷ []) j no_row) (let g : e - 1 - 0 ≡ 0 = omega arith in g) in
       let lens : (e : ℕ) → e ≡ 1 → get_or t.lengths (e - 1) 0 ≡ 0 = λ e q.
-      ap (λ (ls : List ℕ). get_or ls (e - 1) 0) n.lengths ∙ replicated 32 (e - 1) 0 0 (omega arith) in
+      ap (λ (ls : List ℕ). get_or ls (e - 1) 0) n.lengths ∙ get_or-replicate 32 (e - 1) 0 0 (omega arith) in
       let empty = n.sent in
       let lim = kept.most in
       record {
-        started = refl;
-        eight = joined_length k.members k.leader t.controllers;
-        four = ap length n.seats;
-        epochs = ap length n.lengths;
-        entries = leb-true 512 (length t.entries) a.0;
-        openings = leb-true 2048 (length t.openings) a2.0;
-        committed = first_states_length M.opening t.committed;
-        speculative = first_states_length M.opening t.speculative;
-        envelopes = leb-true 1024 (length t.envelopes) a4.1;
+        roomy = record {
+          started = refl;
+          eight = refl;
+          four = ap length n.seats;
+          epochs = ap length n.lengths;
+          entries = leb-true 512 (length t.entries) a.0;
+          openings = leb-true 2048 (length t.openings) a2.0;
+          committed = first_states_length M.opening t.committed;
+          speculative = first_states_length M.opening t.speculative;
+          envelopes = leb-true 1024 (length t.envelopes) a4.1;
+        };
         few = omega arith;
         stands = λ c b.
             let q : at M (opened M t k) c ≡ joined k.members k.leader c fresh =
-            joined_at k.members k.leader t.controllers c b
-            ∙ ap (λ (x : Controller). joined k.members k.leader c x) (ap (λ (ks : List Controller). get_or ks c no_controller) n.controllers ∙ replicated 8 c fresh no_controller b) in
+            get_or-map-range_with_len (λ d. joined k.members k.leader d (get_or t.controllers d no_controller)) 0 8 c c no_controller b (omega arith)
+            ∙ ap (λ (x : Controller). joined k.members k.leader c x) (ap (λ (ks : List Controller). get_or ks c no_controller) n.controllers ∙ get_or-replicate 8 c fresh no_controller b) in
             subst (λ (x : Controller). Stands M (opened M t k) (begun M.applied (first M) nothing (member k.members) k.leader) c x) (sym q) (first_stands t k c n b);
-        last = simp length-append (omega arith);
-        some = omega arith;
-        limit = kept.most;
-        most = omega arith;
-        members = λ e f p b. let q : e ≡ 1 = omega arith in let te = eq-eqb e 1 q in simp te (ap (λ (r : ConfigRow). member r.members f) (at_end e q));
-        leader = λ e p b. let q : e ≡ 1 = omega arith in let te = eq-eqb e 1 q in simp te (ap (λ (r : ConfigRow). r.leader) (at_end e q));
+        stored = record {
+          last = simp length-append (omega arith);
+          some = omega arith;
+          limit = kept.most;
+          most = omega arith;
+          members = λ e f p b. let q : e ≡ 1 = omega arith in let te = eq-eqb e 1 q in simp te (ap (λ (r : ConfigRow). member r.members f) (at_end e q));
+          leader = λ e p b. let q : e ≡ 1 = omega arith in let te = eq-eqb e 1 q in simp te (ap (λ (r : ConfigRow). r.leader) (at_end e q));
+        };
         opened = λ e o. let q = only_first e o in let te = eq-eqb e 1 q in simp te (ap (λ (j : ℕ). opening_of t.openings e j) (lens e q));
         short = λ e o. let q = lens e (only_first e o) in omega arith;
         bag = λ j h. absurd (omega arith);
-        seats = λ j h. let q : get_or t.seats j Idle ≡ Idle = ap (λ (xs : List Seat). get_or xs j Idle) n.seats ∙ replicated 4 j Idle Idle h in subst (λ (x : Seat). Sits M (begun M.applied (first M) nothing (member k.members) k.leader) x) (sym q) tt;
+        seats = λ j h. let q : get_or t.seats j Idle ≡ Idle = ap (λ (xs : List Seat). get_or xs j Idle) n.seats ∙ get_or-replicate 4 j Idle Idle h in subst (λ (x : Seat). Sits M (begun M.applied (first M) nothing (member k.members) k.leader) x) (sym q) tt;
       }
 
   -- start on a new floor
   pub start_leads : (t : Here M) (s : Configured) (m l : ℕ) → New M t → Kept s → Leads (start m l) t nothing (started_by M t s m l)
+  unfolding begun
   start_leads t s m l n kept =
-      asks (long_tables M t) (cond t.started (with_config M (refuse M t Started) s) (starting M t s (made m l))) ShortTables λ sizes.
+      asks_leads (start m l) t s nothing (inl (n, kept, refl)) (long_tables M t) (cond t.started (with_config M (refuse M t Started) s) (starting M t s (made m l))) ShortTables λ sizes.
       subst (λ (b : Bool). Leads (start m l) t nothing (cond b (with_config M (refuse M t Started) s) (starting M t s (made m l)))) (sym n.started) (row sizes (made m l) refl)
     where
       no : (g : Fault) → Leads (start m l) t nothing (with_config M (refuse M t g) s)
       no g = refusal_leads (start m l) t s nothing (inl (n, kept, refl)) g
-
-      asks : (b : Bool) (d : Both M) (f : Fault) → (b ≡ true → Leads (start m l) t nothing d) → Leads (start m l) t nothing (cond b d (with_config M (refuse M t f) s))
-      asks true d f go = go refl
-      asks false d f go = no f
 
       answers : long_tables M t ≡ true → (k : ConfigRow) → member k.members k.leader ≡ true → (r : Result ℕ ConfigFault) → store_answer s 0 ≡ r → Leads (start m l) t nothing (started_with M t s k r)
       answers sizes k law (Err f) q = subst (λ (c : Configured). Leads (start m l) t nothing (with_config M (refuse M t (of_config f)) c)) (sym (rw q refl)) (no (of_config f))
@@ -370,7 +307,7 @@ module _ (M : Meant) where
             view = w;
             known = inr (begin_keeps M.applied (first M) nothing (member k.members) k.leader nothing_idle law, subst (λ (c : Configured). Seen M (opened M t k) c w) (sym (rw q refl)) (first_seen t s k n kept sizes (sym g.0) (omega arith)));
             grown = begin_later M.applied (first M) nothing (member k.members) k.leader nothing_idle;
-            fact = record { handed = begun_handed nothing (member k.members) k.leader; opened = tt; made = tt };
+            fact = record { handed = λ d. refl; opened = tt; made = tt; secured = tt };
           }
 
       row : long_tables M t ≡ true → (o : Option ConfigRow) → made m l ≡ o → Leads (start m l) t nothing (starting M t s o)
@@ -379,11 +316,7 @@ module _ (M : Meant) where
 
   -- start on a floor that is started
   pub start_again : (t : Here M) (s : Configured) (v : Sight M) (m l : ℕ) → Safe M v → Seen M t s v → Leads (start m l) t v (started_by M t s m l)
-  start_again t s v m l i z = asks (long_tables M t) (subst (λ (b : Bool). Leads (start m l) t v (cond b (with_config M (refuse M t Started) s) (starting M t s (made m l)))) (sym z.started) (no Started))
-    where
-      no : (g : Fault) → Leads (start m l) t v (with_config M (refuse M t g) s)
-      no g = refusal_leads (start m l) t s v (inr (i, z)) g
-
-      asks : (b : Bool) {d : Both M} → Leads (start m l) t v d → Leads (start m l) t v (cond b d (with_config M (refuse M t ShortTables) s))
-      asks true y = y
-      asks false y = no ShortTables
+  start_again t s v m l i z =
+      let known = inr (i, z) in
+      asks_leads (start m l) t s v known (long_tables M t) (cond t.started (with_config M (refuse M t Started) s) (starting M t s (made m l))) ShortTables λ _.
+      subst (λ (b : Bool). Leads (start m l) t v (cond b (with_config M (refuse M t Started) s) (starting M t s (made m l)))) (sym z.started) (refusal_leads (start m l) t s v known Started)

@@ -1,7 +1,7 @@
 -- A table of lists, each in its own stretch of 64 places.
-use Rattle.std.proofs.Common.{◌≡◌, ℕ, ◌+◌, ◌-◌, ◌<◌, ◌≤◌, ◌≢◌, ◌⊎◌, List, [], ◌∷◌, ◌++◌, length, get_or, take, drop, set, sym, refl, ap, ◌∙◌, inl, inr, arith}
+use Rattle.std.proofs.Common.{◌≡◌, ℕ, ◌+◌, ◌-◌, ◌*◌, ◌<◌, ◌≤◌, ◌≢◌, ◌⊎◌, List, [], ◌∷◌, ◌++◌, length, get_or, take, drop, set, sym, refl, ap, ◌∙◌, inl, inr, arith}
 use Rattle.std.proofs.lemmas.List.{same_lists, length-set, length-take-le, length-drop, length-append, get_or-take, get_or-drop, get_or-set_same, get_or-set_other, take_more_set, drop-set-add, get_or_append_left, get_or-append_right}
-use Rattle.std.proofs.lemmas.Bool.{cases_eq}
+use Rattle.std.proofs.lemmas.Bool.{cases_eq, cases_lt}
 use Rattle.machine.specs.Machine.{over}
 
 module _ {A : Type 0} where
@@ -20,6 +20,13 @@ module _ {A : Type 0} where
       let kn : k < n = omega (arith, length_part (set es i x) a n (simp length-set h)) in
       let ne : a + k ≢ i = λ q. elim out [ inl p ↦ omega arith | inr p ↦ omega arith ] in
       get_or_part (set es i x) a n k d kn ∙ get_or-set_other es i (a + k) x d ne ∙ sym (get_or_part es a n k d kn))
+
+  -- a write in one controller's stretch leaves another's
+  pub stretch_apart : (es : List A) (c d n k : ℕ) (x : A) → (d ≡ c → ⊥) → d < 8 → 512 ≤ length es → n ≤ 64 → k < 64
+      → take n (drop (d * 64) (set es (c * 64 + k) x)) ≡ take n (drop (d * 64) es)
+  stretch_apart es c d n k x ne db big short low =
+      part_apart es (d * 64) n (c * 64 + k) x (omega arith)
+      (elim (cases_lt c d) [ inl l ↦ inl (omega arith) | inr l ↦ inr (let m : c ≢ d = λ q. ne (sym q) in omega arith) ])
 
   -- a write at the end of a list is one entry more
   pub part_push : (es : List A) (a n : ℕ) (x : A) → a + n < length es → take (n + 1) (drop a (set es (a + n) x)) ≡ take n (drop a es) ++ x ∷ []

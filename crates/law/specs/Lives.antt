@@ -1,16 +1,16 @@
 -- Lives of a floor: any calls with any arguments, one after the other, from a new floor.
-use Rattle.std.specs.Prelude.{◌≡◌, ℕ, Bool, true, false, cond, List, [], ◌∷◌, ◌++◌, take, replicate, Ok, Err, Result, ◌==◌, slice_index_or}
+use Rattle.std.specs.Prelude.{◌≡◌, ℕ, Bool, true, false, if◌then◌else◌, List, [], ◌∷◌, ◌++◌, take, replicate, Ok, Result, ◌==◌, slice_index_or}
 use Rattle.service.specs.Meant.{Meant}
 use Rattle.config.specs.Configured.{Configured}
 use Rattle.entries.specs.declared.Entry.{Entry}
 use Rattle.machine.specs.declared.controller.Controller.{Controller}
 use Rattle.machine.specs.declared.controller.Role.TheVariants.{Fresh}
 use Rattle.machine.specs.declared.envelope.Message.{Message}
-use Rattle.machine.specs.declared.envelope.Message.TheVariants.{Commit, Accept, Held, Probe, Answer, NewConfig, NewState}
+use Rattle.machine.specs.declared.envelope.Message.TheVariants.{Commit}
 use Rattle.machine.specs.declared.fault.Fault.{Fault}
 use Rattle.machine.specs.declared.seat.Seat.TheVariants.{Idle}
 use Rattle.machine.specs.Machine.{Here, Both, at, stretch, part, no_envelope}
-use Rattle.machine.specs.Changes.{Act, start, order, settle, hand, report, begin, lower, propose, abandon, stop, act}
+use Rattle.machine.specs.Changes.{Act, hand, act}
 
 -- a controller that is running and fresh
 abbrev pub fresh : Controller
@@ -36,7 +36,7 @@ module _ (M : Meant) where
     pub made : Act M.Command
 
   abbrev pub opening : Configured → Bool → Configured
-  opening s o = record { all = s.all; limit = s.limit; is_open = o }
+  opening s o = record s { is_open = o }
 
   -- what a call does
   abbrev pub outcome : World → Call → Both M
@@ -64,26 +64,12 @@ module _ (M : Meant) where
   -- the entries that a granted hand of a COMMIT applies, by its answer n
   abbrev pub applies : Here M → ℕ → ℕ → Message M.Update → List (Entry M.Update)
   applies t c n (Commit e m) = part t.entries c (at M t c).delivered n
-  applies t c n (Accept e k x) = []
-  applies t c n (Held e h f) = []
-  applies t c n (Probe m e i) = []
-  applies t c n (Answer y m e f i) = []
-  applies t c n (NewConfig e m) = []
-  applies t c n (NewState e) = []
+  applies t c n _ = []
 
   -- the entries that controller d delivers by a call, by what the call answers
   abbrev pub delivers : Here M → Act M.Command → Result ℕ Fault → ℕ → List (Entry M.Update)
-  delivers t (start m l) r d = []
-  delivers t (order c n x) r d = []
-  delivers t (settle c) r d = []
-  delivers t (hand i c) (Ok n) d = cond (d == c) (applies t c n (letter t i)) []
-  delivers t (hand i c) (Err f) d = []
-  delivers t (report i) r d = []
-  delivers t (begin i) r d = []
-  delivers t (lower i) r d = []
-  delivers t (propose i m l) r d = []
-  delivers t (abandon i) r d = []
-  delivers t (stop c) r d = []
+  delivers t (hand i c) (Ok n) d = if d == c then applies t c n (letter t i) else []
+  delivers t _ _ d = []
 
   -- the delivered list of controller d: the entries that its granted hands of COMMIT applied, in sequence
   abbrev pub delivered : World → List Call → ℕ → List (Entry M.Update)

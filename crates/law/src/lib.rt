@@ -1,3 +1,4 @@
+//! What holds over every life of a floor, on the call that makes it.
 #![tactic(auto)]
 
 ghost use Rattle.std.specs.Prelude.{◌≡◌, ℕ};
@@ -13,7 +14,8 @@ use machine::fault::Fault;
 use machine::tables::Tables;
 use service::Service;
 
-// Makes a call of a life. Over every life of a floor the law holds, whatever calls it has.
+/// Makes a call of a life. It errs as `perform` of the floor does.
+#[tactic(auto, using(crate::proofs::Steps::steps))]
 pub fn live<S: Service, C: ConfigService>(
     floor: &mut Floor,
     tables: &mut Tables<S>,

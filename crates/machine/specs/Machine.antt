@@ -1,5 +1,5 @@
 -- The machine: what each call answers and what every table is afterwards, granted or refused.
-use Rattle.std.specs.Prelude.{ℕ, ◌+◌, ◌-◌, ◌*◌, Bool, true, cond, ◌&&◌, ◌||◌, List, [], ◌∷◌, ◌++◌, length, get_or, take, drop, replicate, Some, None, Ok, Err, Option, Result, ◌==◌, nat_le, nat_lt, slice_index, slice_index_or, slice_set}
+use Rattle.std.specs.Prelude.{ℕ, ◌+◌, ◌-◌, ◌*◌, Bool, true, cond, ◌&&◌, ◌||◌, List, ◌++◌, length, get_or, take, drop, fold, replicate, Some, None, Ok, Err, Option, Result, ◌==◌, nat_le, nat_lt, slice_index, slice_index_or, slice_set}
 use Rattle.service.specs.Meant.{Meant}
 use Rattle.service.specs.declared.ServiceFault.{ServiceFault}
 use Rattle.service.specs.declared.Worked.{Worked}
@@ -135,123 +135,37 @@ module _ (M : Meant) where
 
   -- the row that a list of entries makes of a row
   abbrev pub run : M.Row → List (Entry M.Update) → M.Row
-  run x [] = x
-  run x (e ∷ es) = run (M.next x e.update) es
+  run x es = fold (λ x e. M.next x e.update) x es
 
   -- one part of the floor changed
   abbrev pub put_controller : Here → ℕ → Controller → Here
-  put_controller t c k = record {
-    started = t.started;
-    controllers = slice_set t.controllers c k;
-    seats = t.seats;
-    lengths = t.lengths;
-    sent = t.sent;
-    entries = t.entries;
-    openings = t.openings;
-    committed = t.committed;
-    speculative = t.speculative;
-    envelopes = t.envelopes;
-  }
+  put_controller t c k = record t { controllers = slice_set t.controllers c k }
 
   abbrev pub put_entry : Here → ℕ → Entry M.Update → Here
-  put_entry t i x = record {
-    started = t.started;
-    controllers = t.controllers;
-    seats = t.seats;
-    lengths = t.lengths;
-    sent = t.sent;
-    entries = slice_set t.entries i x;
-    openings = t.openings;
-    committed = t.committed;
-    speculative = t.speculative;
-    envelopes = t.envelopes;
-  }
+  put_entry t i x = record t { entries = slice_set t.entries i x }
 
   abbrev pub put_committed : Here → ℕ → M.Row → Here
-  put_committed t c x = record {
-    started = t.started;
-    controllers = t.controllers;
-    seats = t.seats;
-    lengths = t.lengths;
-    sent = t.sent;
-    entries = t.entries;
-    openings = t.openings;
-    committed = slice_set t.committed c x;
-    speculative = t.speculative;
-    envelopes = t.envelopes;
-  }
+  put_committed t c x = record t { committed = slice_set t.committed c x }
 
   abbrev pub put_speculative : Here → ℕ → M.Row → Here
-  put_speculative t c x = record {
-    started = t.started;
-    controllers = t.controllers;
-    seats = t.seats;
-    lengths = t.lengths;
-    sent = t.sent;
-    entries = t.entries;
-    openings = t.openings;
-    committed = t.committed;
-    speculative = slice_set t.speculative c x;
-    envelopes = t.envelopes;
-  }
+  put_speculative t c x = record t { speculative = slice_set t.speculative c x }
 
   abbrev pub put_seat : Here → ℕ → Seat → Here
-  put_seat t i s = record {
-    started = t.started;
-    controllers = t.controllers;
-    seats = slice_set t.seats i s;
-    lengths = t.lengths;
-    sent = t.sent;
-    entries = t.entries;
-    openings = t.openings;
-    committed = t.committed;
-    speculative = t.speculative;
-    envelopes = t.envelopes;
-  }
+  put_seat t i s = record t { seats = slice_set t.seats i s }
 
   -- the list of controller c taken over from the opening list of e, and the other way round
   abbrev pub put_list : Here → ℕ → List (Entry M.Update) → Here
-  put_list t c xs = record {
-    started = t.started;
-    controllers = t.controllers;
-    seats = t.seats;
-    lengths = t.lengths;
-    sent = t.sent;
-    entries = over t.entries (c * 64) xs;
-    openings = t.openings;
-    committed = t.committed;
-    speculative = t.speculative;
-    envelopes = t.envelopes;
-  }
+  put_list t c xs = record t { entries = over t.entries (c * 64) xs }
 
   abbrev pub put_opening : Here → ℕ → List (Entry M.Update) → Here
-  put_opening t e xs = record {
-    started = t.started;
-    controllers = t.controllers;
-    seats = t.seats;
+  put_opening t e xs = record t {
     lengths = slice_set t.lengths (e - 1) (length xs);
-    sent = t.sent;
-    entries = t.entries;
     openings = over t.openings ((e - 1) * 64) xs;
-    committed = t.committed;
-    speculative = t.speculative;
-    envelopes = t.envelopes;
   }
 
   -- an envelope put into the bag
   abbrev pub post : Here → Envelope M.Update → Here
-  post t e = record {
-    started = t.started;
-    controllers = t.controllers;
-    seats = t.seats;
-    lengths = t.lengths;
-    sent = t.sent + 1;
-    entries = t.entries;
-    openings = t.openings;
-    committed = t.committed;
-    speculative = t.speculative;
-    envelopes = slice_set t.envelopes t.sent e;
-  }
+  post t e = record t { sent = t.sent + 1; envelopes = slice_set t.envelopes t.sent e }
 
   -- the same, where it has an addressee
   abbrev pub send : Here → Envelope M.Update → Here
@@ -368,17 +282,11 @@ module _ (M : Meant) where
 
   -- Start: epoch 1 is stored, its members join it, and every state becomes the first.
   abbrev pub opened : Here → ConfigRow → Here
-  opened t k = record {
+  opened t k = record t {
     started = true;
     controllers = all_joined k.members k.leader t.controllers;
-    seats = t.seats;
-    lengths = t.lengths;
-    sent = t.sent;
-    entries = t.entries;
-    openings = t.openings;
     committed = all_first M.opening t.committed;
     speculative = all_first M.opening t.speculative;
-    envelopes = t.envelopes;
   }
 
   abbrev pub Both : Type 0

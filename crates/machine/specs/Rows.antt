@@ -1,5 +1,5 @@
 -- What the rows of the floor's record say: controllers, roles, what a leader was told.
-use Rattle.std.specs.Prelude.{ℕ, zero, suc, ◌+◌, min, Bool, true, false, cond, List, map, replicate, Some, None, Option, ◌==◌, nat_lt, slice_index_or, slice_set}
+use Rattle.std.specs.Prelude.{ℕ, ◌+◌, min, Bool, true, false, cond, List, map, filter, fold, replicate, Some, None, Option, ◌==◌, nat_lt, slice_index_or, slice_set}
 use Rattle.std.specs.List.{range_with_len}
 use Rattle.config.specs.Members.{member, other}
 use Rattle.machine.specs.declared.controller.Controller.{Controller}
@@ -44,19 +44,13 @@ lesser None n = None
 lesser (Some h) None = None
 lesser (Some h) (Some n) = Some (min h n)
 
-abbrev pub lesser_if : Bool → Option ℕ → Option ℕ → Option ℕ
-lesser_if false h n = n
-lesser_if true h n = lesser h n
+-- the lengths that the members other than c told
+abbrev pub told_by_others : Lead → ℕ → List (Option ℕ)
+told_by_others l c = map (λ f. slice_index_or l.told f None) (filter (other l.members c) (range_with_len 0 8))
 
--- the least of a leader c's own length and the lengths that the other members among the first k controllers told;
--- none where one of them has told nothing
-abbrev pub least_among : ℕ → List (Option ℕ) → ℕ → ℕ → ℕ → Option ℕ
-least_among m told c own zero = Some own
-least_among m told c own (suc k) = lesser_if (other m c k) (slice_index_or told k None) (least_among m told c own k)
-
--- how settle finds the least length
+-- how settle finds the least length, of a leader c's own and what the other members told; none where one has told nothing
 unfoldable pub least : Lead → ℕ → ℕ → Option ℕ
-least l c own = least_among l.members l.told c own 8
+least l c own = fold (λ n h. lesser h n) (Some own) (told_by_others l c)
 
 -- how far a COMMIT of n reaches with d places delivered
 abbrev pub reach : ℕ → ℕ → ℕ
@@ -64,22 +58,22 @@ reach n d = n
 
 -- the controller with one entry more, and with r places delivered
 abbrev pub longer : Controller → Controller
-longer k = record { running = k.running; role = k.role; epoch = k.epoch; promise = k.promise; length = k.length + 1; delivered = k.delivered }
+longer k = record k { length = k.length + 1 }
 
 abbrev pub delivered_to : Controller → ℕ → Controller
-delivered_to k r = record { running = k.running; role = k.role; epoch = k.epoch; promise = k.promise; length = k.length; delivered = r }
+delivered_to k r = record k { delivered = r }
 
 -- the leader that has settled n places, and the leader that f has told the length h
 abbrev pub with_role : Controller → Role → Controller
-with_role k r = record { running = k.running; role = r; epoch = k.epoch; promise = k.promise; length = k.length; delivered = k.delivered }
+with_role k r = record k { role = r }
 
 abbrev pub settled_at : Lead → ℕ → Role
-settled_at l n = Leader (record { members = l.members; told = l.told; settled = n })
+settled_at l n = Leader (record l { settled = n })
 
 abbrev pub told_to : Role → ℕ → ℕ → Role
 told_to Fresh f h = Fresh
 told_to Follower f h = Follower
-told_to (Leader l) f h = Leader (record { members = l.members; told = slice_set l.told f (Some h); settled = l.settled })
+told_to (Leader l) f h = Leader (record l { told = slice_set l.told f (Some h) })
 
 -- what the first leader c of members m keeps: each other member has told 0
 abbrev pub first_lead : ℕ → ℕ → Lead
@@ -90,7 +84,7 @@ abbrev pub first_role : ℕ → ℕ → ℕ → Role
 first_role m l c = cond (c == l) (Leader (first_lead m l)) Follower
 
 abbrev pub joined : ℕ → ℕ → ℕ → Controller → Controller
-joined m l c k = cond (member m c) (record { running = k.running; role = first_role m l c; epoch = 1; promise = 1; length = 0; delivered = 0 }) k
+joined m l c k = cond (member m c) (record k { role = first_role m l c; epoch = 1; promise = 1; length = 0; delivered = 0 }) k
 
 -- what the start makes of the controllers
 unfoldable pub all_joined : ℕ → ℕ → List Controller → List Controller
@@ -98,16 +92,16 @@ all_joined m l ks = map (λ c. joined m l c (slice_index_or ks c no_controller))
 
 -- a controller that promised, that leads epoch e with members m, and that follows in epoch e with n entries
 abbrev pub promised : Controller → ℕ → Controller
-promised k n = record { running = k.running; role = k.role; epoch = k.epoch; promise = n; length = k.length; delivered = k.delivered }
+promised k n = record k { promise = n }
 
 abbrev pub new_lead : ℕ → Lead
 new_lead m = record { members = m; told = replicate 8 None; settled = 0 }
 
 abbrev pub leading : Controller → ℕ → ℕ → Controller
-leading k e m = record { running = k.running; role = Leader (new_lead m); epoch = e; promise = k.promise; length = k.length; delivered = k.delivered }
+leading k e m = record k { role = Leader (new_lead m); epoch = e }
 
 abbrev pub following : Controller → ℕ → ℕ → Controller
-following k e n = record { running = k.running; role = Follower; epoch = e; promise = e; length = n; delivered = k.delivered }
+following k e n = record k { role = Follower; epoch = e; promise = e; length = n }
 
 abbrev pub stopped : Controller → Controller
-stopped k = record { running = false; role = k.role; epoch = k.epoch; promise = k.promise; length = k.length; delivered = k.delivered }
+stopped k = record k { running = false }

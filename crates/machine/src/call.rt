@@ -1,5 +1,5 @@
-// A call with its arguments, as a sheet's row has them.
-#[derive(Clone, Copy)]
+/// A call with its arguments, as a sheet's row has them.
+#[derive(Clone, Copy, Debug, PartialEq, Eq)]
 pub enum Call<C> {
     Start {
         members: u32,

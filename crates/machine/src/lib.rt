@@ -1,8 +1,8 @@
+//! What the machine's records are made of: controllers, envelopes, seats, refusals and tables.
 #![tactic(auto)]
 
 pub mod call;
 pub mod controller;
-pub mod convert;
 pub mod envelope;
 pub mod fault;
 pub mod seat;

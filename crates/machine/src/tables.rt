@@ -1,17 +1,65 @@
-pub mod make;
+ghost use Rattle.std.specs.Prelude.{◌≡◌, IfOk};
+ghost use Rattle.service.specs.Meant.{meant_by};
+ghost use Rattle.machine.specs.Blank.{Blank, blank};
 
-use crate::envelope::Envelope;
+use crate::envelope::{Envelope, Message};
+use config::members::{CONTROLLERS, Members};
+use config::service::EPOCHS;
 use entries::Entry;
 use service::Service;
+use std::alloc::{AllocError, Global};
 
-// The tables that are handed to each call.
+/// How many places a list has.
+pub const PLACES: u32 = 64;
+
+/// How many envelopes the bag takes.
+pub const MOST_SENT: u32 = 1024;
+
+/// The tables that are handed to each call, which may be of any length: the call asks that first.
+// Lent tables of plain rows, as the callers have them; no type of ours could hold what they hand in.
 #[derive(Drop)]
 pub struct Tables<S: Service> {
-    // the list of controller c lies in the 64 rows from c × 64 on
+    /// The list of controller c lies in the 64 rows from c × 64 on.
     pub entries: Vec<Entry<S::Update>>,
-    // the list with which epoch e was opened lies in the 64 rows from (e − 1) × 64 on
+    /// The list with which epoch e was opened lies in the 64 rows from (e − 1) × 64 on.
     pub openings: Vec<Entry<S::Update>>,
+    /// The states into which entries are delivered, a row for each controller.
     pub committed: Vec<S>,
+    /// The states in which leaders work, a row for each controller.
     pub speculative: Vec<S>,
+    /// The envelopes that are sent, in their sequence.
     pub envelopes: Vec<Envelope<S::Update>>,
+}
+
+// A table of n rows like this one.
+#[tactic(auto, unfolding(crate::specs::Blank::blank))]
+fn filled<T: Copy>(heap: Global, row: T, n: u32) -> Result<Vec<T>, AllocError>
+    ensures { IfOk result (λ v. v.items ≡ blank n row) }
+{
+    (0..n).map(|_| row).collect(heap)
+}
+
+impl<S: Service> Tables<S> {
+    /// Tables of the lengths that a call asks for, filled with this update and the first state.
+    pub fn new(heap: Global, update: S::Update) -> Result<Tables<S>, AllocError>
+        ensures { IfOk result (λ t. Blank (meant_by S.Service) update t) }
+    {
+        let entry = Entry {
+            epoch: 0,
+            serial: 0,
+            update,
+        };
+        let envelope = Envelope {
+            sender: 0,
+            to: Members::NONE,
+            message: Message::Commit { epoch: 0, count: 0 },
+        };
+        Ok(Tables {
+            entries: filled(heap, entry, CONTROLLERS * PLACES)?,
+            openings: filled(heap, entry, EPOCHS * PLACES)?,
+            committed: filled(heap, S::first(), CONTROLLERS)?,
+            speculative: filled(heap, S::first(), CONTROLLERS)?,
+            envelopes: filled(heap, envelope, MOST_SENT)?,
+        })
+    }
 }

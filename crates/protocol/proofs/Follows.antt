@@ -2,8 +2,8 @@
 use Rattle.std.proofs.Common.{◌≡◌, ℕ, zero, suc, ◌<◌, ◌≤◌, true, [], length, Some, sym, ap, ◌∙◌, inl, inr, arith}
 use Rattle.std.specs.List.{slice_get}
 use Rattle.std.proofs.lemmas.Bool.{cases_lt, cases_eq}
+use Rattle.std.proofs.lemmas.Option.{slice_get-get_or}
 use Rattle.entries.specs.declared.Entry.{Entry}
-use Rattle.protocol.proofs.Lists.{nth_some}
 use Rattle.protocol.proofs.View.{View, AllHeld}
 use Rattle.protocol.proofs.Inv.{Inv}
 
@@ -23,7 +23,7 @@ module _ {U X : Type 0} (act : X → U → X) (x₀ : X) where
             let g = no.0 in
             let q = i.noes e t g no.1 in
             elim (cases_eq g (v.leader t)) [
-              | inl lead ↦ let z = q.7 (sym lead) in let y = a.opened in let w : ◌≡◌ {A = ℕ} 0 1 = cc in absurd (omega arith)
+              | inl lead ↦ let z = q.7 (sym lead) in let y = a.opened in absurd cc
               | inr other ↦ let w = a.each g q.4 other in absurd (omega (arith, q.6))
             ]
         | inr not_above ↦ elim (cases_eq t p) [
@@ -34,8 +34,8 @@ module _ {U X : Type 0} (act : X → U → X) (x₀ : X) where
                 let w = a.each (v.leader e) (rw eq (i.inside e o two)) (rw eq other) in
                 let l = i.less e o two other in
                 let within : k < length (v.opening e) = omega (arith, w, ap (λ q. v.held q (v.leader e)) eq) in
-                let s = nth_some (v.opening e) k within in
-                s.1 ∙ sym (i.from e o two k s.0 s.1) ∙ rw (sym eq) h
+                let s = slice_get-get_or (v.opening e) k x within in
+                s ∙ sym (i.from e o two k _ s) ∙ rw (sym eq) h
           ]
           -- t lies below the parent
           | inr below ↦ i.base e o two k x (key_below v i t n pos a b p (omega (arith, pa.1)) pa.2 (omega arith) k x kn h)
@@ -57,13 +57,12 @@ module _ {U X : Type 0} (act : X → U → X) (x₀ : X) where
   back_below v i (suc b) e k x le o h =
       elim (cases_lt k (length (v.opening e))) [
         | inl short ↦
-            let s = nth_some (v.opening e) k short in
             elim (cases_lt 1 e) [
               | inl two ↦
                   let pa = i.past e o two in
                   let at_parent : (j : ℕ) (y : Entry U) → j ≤ k → slice_get (v.grown e) j ≡ Some y → slice_get (v.grown (v.parent e)) j ≡ Some y =
-                  λ j y jk g. let z = nth_some (v.opening e) j (omega arith) in
-                  i.from e o two j y (z.1 ∙ sym (i.grows e o j z.0 z.1) ∙ g) in
+                  λ j y jk g. let z = slice_get-get_or (v.opening e) j y (omega arith) in
+                  i.from e o two j y (z ∙ sym (i.grows e o j _ z) ∙ g) in
                   let r = back_below v i b (v.parent e) k x (omega (arith, pa.1)) pa.2 (at_parent k x (omega arith) h) in
                   record { opened = r.opened; after = r.after; alike = λ j y jk g. r.alike j y jk (at_parent j y jk g) }
               | inr one ↦

@@ -1,25 +1,33 @@
 -- What only grows from view to view.
-use Rattle.std.proofs.Common.{◌≡◌, ℕ, ◌+◌, ◌<◌, ◌≤◌, Bool, true, false, eqb, length, Some, sym, refl, ap, ◌∙◌, inl, inr, arith}
-use Rattle.std.specs.List.{slice_get}
-use Rattle.std.proofs.lemmas.Bool.{cases_eq, eq-eqb, ne_eqb}
+use Rattle.std.proofs.Common.{◌≡◌, ℕ, ◌<◌, ◌≤◌, Bool, true, [], ◌∷◌, length, sym, refl, ◌∙◌, inl, inr, arith}
 use Rattle.std.proofs.lemmas.Bool.Decides.{nat_tests}
+use Rattle.std.proofs.lemmas.Option.{slice_get_within}
 use Rattle.entries.specs.declared.Entry.{Entry}
-use Rattle.protocol.proofs.View.{View, Prefix, Nos, AllHeld, Fit, begin, order, accept, deliver, promised, open_epoch, join, store}
+use Rattle.protocol.proofs.View.{View, Configs, Epochs, Prefix, Nos, AllHeld, Kept, Fit, begin, order, accept, deliver, promised, open_epoch, join, store}
 use Rattle.protocol.proofs.Inv.{Inv}
-use Rattle.protocol.proofs.Lists.{nth_within, take_tells, prefix_length}
-use Rattle.protocol.proofs.OrderKeeps.{push_keeps}
-use Rattle.protocol.proofs.BeginKeeps.{Idle}
+use Rattle.protocol.proofs.Lists.{append_keeps, take_tells, prefix_length}
+use Rattle.protocol.proofs.BeginKeeps.{Idle, idle_shut}
 
 module _ {U X : Type 0} (act : X → U → X) (x₀ : X) where
+  -- configurations that are stored stay
+  pub record LaterConfigs (c d : Configs) : Type 0 where
+    pub last : c.last ≤ d.last
+    pub member : (e f : ℕ) → 1 ≤ e → e ≤ c.last → d.member e f ≡ c.member e f
+    pub leader : (e : ℕ) → 1 ≤ e → e ≤ c.last → d.leader e ≡ c.leader e
+
+  -- epochs that were opened stay, and their lists grow
+  pub record LaterEpochs (s t : Epochs U X) : Type 0 where
+    pub opened : (e : ℕ) → s.opened e ≡ true → t.opened e ≡ true
+    pub opening : (e : ℕ) → s.opened e ≡ true → t.opening e ≡ s.opening e
+    pub grown : (e : ℕ) → s.opened e ≡ true → Prefix act x₀ (s.grown e) (t.grown e)
+    pub found : (e k : ℕ) → s.opened e ≡ true → k < length (s.grown e) → t.found e k ≡ s.found e k
+
   pub record Later (v w : View U X) : Type 0 where
-    pub last : v.last ≤ w.last
-    pub member : (e f : ℕ) → 1 ≤ e → e ≤ v.last → w.member e f ≡ v.member e f
-    pub leader : (e : ℕ) → 1 ≤ e → e ≤ v.last → w.leader e ≡ v.leader e
+    pub configs : LaterConfigs v.configs w.configs
+    pub open configs use *
+    pub epochs : LaterEpochs v.epochs w.epochs
+    pub open epochs use *
     pub epoch : (c : ℕ) → v.epoch c ≤ w.epoch c
-    pub opened : (e : ℕ) → v.opened e ≡ true → w.opened e ≡ true
-    pub opening : (e : ℕ) → v.opened e ≡ true → w.opening e ≡ v.opening e
-    pub grown : (e : ℕ) → v.opened e ≡ true → Prefix act x₀ (v.grown e) (w.grown e)
-    pub found : (e k : ℕ) → v.opened e ≡ true → k < length (v.grown e) → w.found e k ≡ v.found e k
     pub held : (e f : ℕ) → v.held e f ≤ w.held e f
     pub denied : (n t f : ℕ) → v.denied n t f ≡ true → w.denied n t f ≡ true
     pub handed : (c : ℕ) → Prefix act x₀ (v.handed c) (w.handed c)
@@ -27,14 +35,18 @@ module _ {U X : Type 0} (act : X → U → X) (x₀ : X) where
   -- a view in which only what it does not speak of changed
   pub later_same : (v : View U X) → Later v v
   later_same v = record {
-    last = omega arith;
-    member = λ e f a b. refl;
-    leader = λ e a b. refl;
+    configs = record {
+      last = omega arith;
+      member = λ e f a b. refl;
+      leader = λ e a b. refl;
+    };
+    epochs = record {
+      opened = λ e o. o;
+      opening = λ e o. refl;
+      grown = λ e o k x h. h;
+      found = λ e k o h. refl;
+    };
     epoch = λ c. omega arith;
-    opened = λ e o. o;
-    opening = λ e o. refl;
-    grown = λ e o k x h. h;
-    found = λ e k o h. refl;
     held = λ e f. omega arith;
     denied = λ n t f d. d;
     handed = λ c k x h. h;
@@ -42,14 +54,18 @@ module _ {U X : Type 0} (act : X → U → X) (x₀ : X) where
 
   pub later_chain : (u v w : View U X) → Later u v → Later v w → Later u w
   later_chain u v w a b = record {
-    last = let p = a.last in let q = b.last in omega arith;
-    member = λ e f l m. let p = a.last in b.member e f l (omega arith) ∙ a.member e f l m;
-    leader = λ e l m. let p = a.last in b.leader e l (omega arith) ∙ a.leader e l m;
+    configs = record {
+      last = let p = a.last in let q = b.last in omega arith;
+      member = λ e f l m. let p = a.last in b.member e f l (omega arith) ∙ a.member e f l m;
+      leader = λ e l m. let p = a.last in b.leader e l (omega arith) ∙ a.leader e l m;
+    };
+    epochs = record {
+      opened = λ e o. b.opened e (a.opened e o);
+      opening = λ e o. b.opening e (a.opened e o) ∙ a.opening e o;
+      grown = λ e o k x h. b.grown e (a.opened e o) k x (a.grown e o k x h);
+      found = λ e k o h. let l = prefix_length act x₀ (u.grown e) (v.grown e) (a.grown e o) in b.found e k (a.opened e o) (omega arith) ∙ a.found e k o h;
+    };
     epoch = λ c. let p = a.epoch c in let q = b.epoch c in omega arith;
-    opened = λ e o. b.opened e (a.opened e o);
-    opening = λ e o. b.opening e (a.opened e o) ∙ a.opening e o;
-    grown = λ e o k x h. b.grown e (a.opened e o) k x (a.grown e o k x h);
-    found = λ e k o h. let l = prefix_length act x₀ (u.grown e) (v.grown e) (a.grown e o) in b.found e k (a.opened e o) (omega arith) ∙ a.found e k o h;
     held = λ e f. let p = a.held e f in let q = b.held e f in omega arith;
     denied = λ n t f d. b.denied n t f (a.denied n t f d);
     handed = λ c k x h. b.handed c k x (a.handed c k x h);
@@ -74,20 +90,30 @@ module _ {U X : Type 0} (act : X → U → X) (x₀ : X) where
             let q = l.held e f in omega arith;
       }
 
+  pub kept_later : (v w : View U X) → Inv act x₀ v → Later v w → (c : ℕ) → w.handed c ≡ v.handed c → Kept act x₀ w c
+  kept_later v w i l c same = elim (i.kept c) [
+    | inl none ↦ inl (rw same none)
+    | inr (e, come, a, pre) ↦ let far = l.epoch c in rw same (inr (e, omega arith, held_later v w i l e (length (v.handed c)) a, λ k x h. l.grown e a.opened k x (pre k x h)))
+  ]
+
   pub begin_later : (v : View U X) (m : ℕ → Bool) (l : ℕ) → Idle act x₀ v → Later v (begin act x₀ v m l)
   unfolding begin
   begin_later v m l d =
       let z = d.last in
-      let shut : (e : ℕ) → v.opened e ≡ true → ⊥ = λ e o. let q = d.opened e in let z : ◌≡◌ {A = ℕ} 0 1 = cc in omega arith in
+      let shut = idle_shut act x₀ v d in
       record {
-        last = omega arith;
-        member = λ e f a b. absurd (omega arith);
-        leader = λ e a b. absurd (omega arith);
+        configs = record {
+          last = omega arith;
+          member = λ e f a b. absurd (omega arith);
+          leader = λ e a b. absurd (omega arith);
+        };
+        epochs = record {
+          opened = λ e o. absurd (shut e o);
+          opening = λ e o. absurd (shut e o);
+          grown = λ e o. absurd (shut e o);
+          found = λ e k o. absurd (shut e o);
+        };
         epoch = λ c. let q = d.epoch c in omega arith;
-        opened = λ e o. absurd (shut e o);
-        opening = λ e o. absurd (shut e o);
-        grown = λ e o. absurd (shut e o);
-        found = λ e k o. absurd (shut e o);
         held = λ e f. omega arith;
         denied = λ n t f d. d;
         handed = λ c k x h. h;
@@ -97,22 +123,15 @@ module _ {U X : Type 0} (act : X → U → X) (x₀ : X) where
   unfolding order
   order_later v c x =
       let s = later_same v in
-      let e = v.epoch c in
       record {
-        last = s.last;
-        member = s.member;
-        leader = s.leader;
+        configs = s.configs;
+        epochs = record {
+          opened = s.opened;
+          opening = s.opening;
+          grown = λ e' o k y h. let a = append_keeps (v.grown e') (x ∷ []) y k h in grind (arith, nat_tests);
+          found = λ e' k o h. grind (arith, nat_tests);
+        };
         epoch = s.epoch;
-        opened = s.opened;
-        opening = s.opening;
-        grown = λ e' o k y h. elim (cases_eq e' e) [
-          | inl q ↦ let t = eq-eqb e' e q in simp t (push_keeps (v.grown e) x y k (rw q at h))
-          | inr d ↦ let t = ne_eqb e' e d in simp t h
-        ];
-        found = λ e' k o h. elim (cases_eq e' e) [
-          | inl q ↦ let t = eq-eqb e' e q in let tk = ne_eqb k (length (v.grown e)) (λ z. omega (arith, ap (λ d. length (v.grown d)) q)) in simp (t, tk)
-          | inr d ↦ let t = ne_eqb e' e d in simp t
-        ];
         held = s.held;
         denied = s.denied;
         handed = s.handed;
@@ -124,21 +143,10 @@ module _ {U X : Type 0} (act : X → U → X) (x₀ : X) where
       let s = later_same v in
       let w = i.said (v.epoch c) c in
       record {
-        last = s.last;
-        member = s.member;
-        leader = s.leader;
+        configs = s.configs;
+        epochs = s.epochs;
         epoch = s.epoch;
-        opened = s.opened;
-        opening = s.opening;
-        grown = s.grown;
-        found = s.found;
-        held = λ e f. elim (cases_eq e (v.epoch c)) [
-          | inl p ↦ elim (cases_eq f c) [
-            | inl q ↦ let t = eq-eqb e (v.epoch c) p in let t2 = eq-eqb f c q in simp (t, t2) (rw (p, q) (grind arith))
-            | inr d ↦ let t = eq-eqb e (v.epoch c) p in let t2 = ne_eqb f c d in simp (t, t2) (omega arith)
-          ]
-          | inr d ↦ let t = ne_eqb e (v.epoch c) d in simp t (omega arith)
-        ];
+        held = λ e f. grind (arith, nat_tests);
         denied = s.denied;
         handed = s.handed;
       }
@@ -148,24 +156,12 @@ module _ {U X : Type 0} (act : X → U → X) (x₀ : X) where
   deliver_later v c n i le =
       let s = later_same v in
       record {
-        last = s.last;
-        member = s.member;
-        leader = s.leader;
+        configs = s.configs;
+        epochs = s.epochs;
         epoch = s.epoch;
-        opened = s.opened;
-        opening = s.opening;
-        grown = s.grown;
-        found = s.found;
         held = s.held;
         denied = s.denied;
-        handed = λ d k y h. elim (cases_eq d c) [
-          | inl q ↦
-              let t = eq-eqb d c q in
-              let h' : slice_get (v.handed c) k ≡ Some y = rw q at h in
-              let w = nth_within (v.handed c) k y h' in
-              simp t (elim (take_tells n (v.list c) k) [ inl r ↦ r.0 ∙ i.own c k y h' | inr r ↦ absurd (omega (arith, r.1)) ])
-          | inr z ↦ let t = ne_eqb d c z in simp t h
-        ];
+        handed = λ d k y h. let a = i.own d k y h in let b = slice_get_within (v.handed d) k y h in grind (arith, nat_tests, take_tells);
       }
 
   pub promised_later : (v : View U X) (c : ℕ) (b : Bool) (t n : ℕ) → Later v (promised act x₀ v c b t n)
@@ -173,14 +169,9 @@ module _ {U X : Type 0} (act : X → U → X) (x₀ : X) where
   promised_later v c b t n =
       let s = later_same v in
       record {
-        last = s.last;
-        member = s.member;
-        leader = s.leader;
+        configs = s.configs;
+        epochs = s.epochs;
         epoch = s.epoch;
-        opened = s.opened;
-        opening = s.opening;
-        grown = s.grown;
-        found = s.found;
         held = s.held;
         denied = λ m u f d. grind (arith, nat_tests);
         handed = s.handed;
@@ -190,16 +181,15 @@ module _ {U X : Type 0} (act : X → U → X) (x₀ : X) where
   unfolding open_epoch
   open_later v c e shut lt =
       let s = later_same v in
-      let apart : (e' : ℕ) → v.opened e' ≡ true → eqb e' e ≡ false = λ e' o. ne_eqb e' e (λ q. shut (rw q at o)) in
       record {
-        last = s.last;
-        member = s.member;
-        leader = s.leader;
+        configs = s.configs;
+        epochs = record {
+          opened = λ e' o. grind (arith, nat_tests);
+          opening = λ e' o. grind (arith, nat_tests);
+          grown = λ e' o k x h. grind (arith, nat_tests);
+          found = s.found;
+        };
         epoch = λ d. grind (arith, nat_tests);
-        opened = λ e' o. let t = apart e' o in simp t o;
-        opening = λ e' o. let t = apart e' o in simp t;
-        grown = λ e' o k x h. let t = apart e' o in simp t h;
-        found = s.found;
         held = s.held;
         denied = s.denied;
         handed = s.handed;
@@ -211,14 +201,9 @@ module _ {U X : Type 0} (act : X → U → X) (x₀ : X) where
       let s = later_same v in
       let none_said : v.held e c ≡ 0 = let w = i.said e c in grind arith in
       record {
-        last = s.last;
-        member = s.member;
-        leader = s.leader;
+        configs = s.configs;
+        epochs = s.epochs;
         epoch = λ d. grind (arith, nat_tests);
-        opened = s.opened;
-        opening = s.opening;
-        grown = s.grown;
-        found = s.found;
         held = λ a f. grind (arith, nat_tests);
         denied = s.denied;
         handed = s.handed;
@@ -229,14 +214,13 @@ module _ {U X : Type 0} (act : X → U → X) (x₀ : X) where
   store_later v m l =
       let s = later_same v in
       record {
-        last = omega arith;
-        member = λ e f a b. let t = ne_eqb e (v.last + 1) (λ q. omega arith) in simp t;
-        leader = λ e a b. let t = ne_eqb e (v.last + 1) (λ q. omega arith) in simp t;
+        configs = record {
+          last = omega arith;
+          member = λ e f a b. grind (arith, nat_tests);
+          leader = λ e a b. grind (arith, nat_tests);
+        };
+        epochs = s.epochs;
         epoch = s.epoch;
-        opened = s.opened;
-        opening = s.opening;
-        grown = s.grown;
-        found = s.found;
         held = s.held;
         denied = s.denied;
         handed = s.handed;

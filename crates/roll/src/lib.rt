@@ -1,3 +1,5 @@
+//! A roll of cloth as a service: loading a roll and drawing cloth off it.
+
 #![tactic(auto)]
 
 ghost use Rattle.std.specs.Prelude.{◌≡◌, ℕ, refl};
@@ -9,39 +11,44 @@ const MOST_LOADED: u32 = 200_000;
 
 const MOST_DRAWN: u32 = 20_000;
 
-// A roll of cloth, by the millimetres left on it.
-#[derive(Clone, Copy)]
+/// A roll of cloth, by the millimetres left on it.
+#[derive(Clone, Copy, Debug, PartialEq, Eq)]
 pub struct Roll {
     pub left: u32,
 }
 
-#[derive(Clone, Copy)]
+/// What may be asked of a roll; lengths in millimetres.
+#[derive(Clone, Copy, Debug, PartialEq, Eq)]
 pub enum RollCommand {
-    // put a roll of this length on
+    /// Put a roll of this length on, of at most 200,000 mm.
     Load(u32),
-    // take this length off
+    /// Take this length off, of 1 to 20,000 mm.
     Draw(u32),
 }
 
-#[derive(Clone, Copy)]
+/// How a roll changes; lengths in millimetres.
+#[derive(Clone, Copy, Debug, PartialEq, Eq)]
 pub enum RollUpdate {
     Load(u32),
     Cut(u32),
 }
 
-#[derive(Clone, Copy)]
+/// Why a roll refuses, with the number of the refusal.
+#[derive(Clone, Copy, Debug, PartialEq, Eq)]
 pub enum RollFault {
-    OutOfRange,
-    NotEnough,
+    /// The length is none that may be loaded or drawn.
+    OutOfRange = 1,
+    /// Less is left than is to be drawn.
+    NotEnough = 2,
 }
 
+// By hand, as each service numbers its own refusals and clauses name what `?` makes of them.
 impl From<RollFault> for ServiceFault {
     ghost from_gives = { λ f r. r ≡ number f };
 
     fn from(fault: RollFault) -> ServiceFault {
-        match fault {
-            RollFault::OutOfRange => ServiceFault { number: 1 },
-            RollFault::NotEnough => ServiceFault { number: 2 },
+        ServiceFault {
+            number: fault as u32,
         }
     }
 }
@@ -79,20 +86,21 @@ impl Service for Roll {
             RollCommand::Draw(length) if length < 1 || length > MOST_DRAWN => Err(
                 RollFault::OutOfRange.into(),
             ),
-            RollCommand::Draw(length) if length > self.left => Err(RollFault::NotEnough.into()),
-            RollCommand::Draw(length) => Ok(Worked {
-                reply: self.left - length,
-                update: RollUpdate::Cut(length),
-            }),
+            RollCommand::Draw(length) => {
+                let left = self.left.checked_sub(length).ok_or(RollFault::NotEnough)?;
+                Ok(Worked {
+                    reply: left,
+                    update: RollUpdate::Cut(length),
+                })
+            }
         }
     }
 
     fn apply(self, update: RollUpdate) -> Roll {
         match update {
             RollUpdate::Load(length) => Roll { left: length },
-            RollUpdate::Cut(length) if length > self.left => Roll { left: 0 },
             RollUpdate::Cut(length) => Roll {
-                left: self.left - length,
+                left: self.left.saturating_sub(length),
             },
         }
     }

@@ -1,9 +1,9 @@
+//! Plays each stored sheet on a new floor, one after the other.
+
 #![tactic(auto)]
 
-use program::{Trouble, ended};
+use program::{Trouble, ended, read_file, write_lines};
 use roll_sheet::play;
-use std::fs;
-use std::io::Write;
 
 // The sheets in the folder in which the program runs, in this order.
 const SHEETS: [&str; 11] = [
@@ -21,15 +21,9 @@ const SHEETS: [&str; 11] = [
 ];
 
 fn play_file(rt: &HostRuntime, name: &str) -> Result<(), Trouble> {
-    let sheet = match fs::read(rt, name) {
-        Ok(sheet) => sheet,
-        Err(error) => return Err(Trouble::Unreadable(error)),
-    };
+    let sheet = read_file(rt, name)?;
     let output = play(rt.alloc(), &sheet)?;
-    match rt.stdout().write_all(output.text.as_bytes()) {
-        Ok(()) => Ok(()),
-        Err(error) => Err(Trouble::Unwritable(error)),
-    }
+    write_lines(rt, &output)
 }
 
 fn run(rt: &HostRuntime) -> Result<(), Trouble> {
@@ -39,7 +33,6 @@ fn run(rt: &HostRuntime) -> Result<(), Trouble> {
     Ok(())
 }
 
-// Plays each stored sheet on a new floor, one after the other.
 fn main(rt: HostRuntime) -> Result<(), Trouble> {
     ended(&rt, run(&rt))
 }

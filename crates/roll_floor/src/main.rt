@@ -1,15 +1,19 @@
+//! Plays a run sheet with the roll on a single table.
+
 #![tactic(auto)]
 
-use program::{Trouble, ended, read_sheet, write_output};
-use roll_sheet::play;
+use program::{Sheets, Trouble, run};
+use sheet::output::Output;
+use std::alloc::{AllocError, Global};
 
-fn run(rt: &HostRuntime) -> Result<(), Trouble> {
-    let sheet = read_sheet(rt)?;
-    let output = play(rt.alloc(), &sheet)?;
-    write_output(rt, sheet.len(), &output)
+struct RollSheets;
+
+impl Sheets for RollSheets {
+    fn play(heap: Global, sheet: &[u8]) -> Result<Output, AllocError> {
+        roll_sheet::play(heap, sheet)
+    }
 }
 
-// Plays a run sheet with the roll on a single table.
 fn main(rt: HostRuntime) -> Result<(), Trouble> {
-    ended(&rt, run(&rt))
+    run::<RollSheets>(&rt)
 }

@@ -1,5 +1,5 @@
 -- The roll and its verbs as values, and the floor on which its sheets begin.
-use Rattle.std.specs.Prelude.{ℕ, true, cond, [], Some, None, Option, ◌==◌}
+use Rattle.std.specs.Prelude.{ℕ, true, if◌then◌else◌, [], Some, None, Option, ◌==◌}
 use Rattle.service.specs.Meant.{Meant}
 use Rattle.config.specs.Configured.{Configured}
 use Rattle.roll.specs.declared.Roll.{Roll}
@@ -29,7 +29,7 @@ roll = record {
 
 -- l loads, d draws
 abbrev pub known : ℕ → Option RollVerb
-known b = cond (b == 108) (Some verb.Load) (cond (b == 100) (Some verb.Draw) None)
+known b = if b == 108 then Some verb.Load else (if b == 100 then Some verb.Draw else None)
 
 abbrev pub says : RollVerb → ℕ → RollCommand
 says verb.Load n = Load n

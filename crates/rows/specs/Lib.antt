@@ -1,3 +1,4 @@
 pub mod Sheet
 pub mod Tokens
 pub mod Lines
+pub mod Left

@@ -1,7 +1,7 @@
 -- The tokens of the code.
 use Rattle.std.specs.Prelude.{ℕ, List}
-use Rattle.rows.specs.declared.Token.{Token}
-use Rattle.rows.specs.declared.Token.TheVariants.{Letter, Number, Other}
+use Rattle.rows.specs.declared.token.Token.{Token}
+use Rattle.rows.specs.declared.token.Token.TheVariants.{Letter, Number, Other}
 use Rattle.rows.specs.Sheet.{Said, letter, number, other}
 
 -- what a token says

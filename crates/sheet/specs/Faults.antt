@@ -2,9 +2,9 @@
 use Rattle.std.specs.Prelude.{ℕ, Ok, Err, Result}
 use Rattle.machine.specs.declared.fault.Fault.{Fault}
 use Rattle.machine.specs.Faults.{number as floor_number, inside as floor_inside}
-use Rattle.rows.specs.declared.Line.{Line}
+use Rattle.rows.specs.declared.line.Line.{Line}
 use Rattle.sheet.specs.declared.fault.SheetFault.{SheetFault}
-use Rattle.sheet.specs.declared.fault.SheetFault.TheVariants.{Unprintable, UnknownLetter, WrongCount, BadNumber, Floor}
+use Rattle.sheet.specs.declared.fault.SheetFault.TheVariants.{Unprintable, UnknownLetter, WrongCount, BadNumber, Floor, TooLong}
 
 abbrev pub number : SheetFault → ℕ
 number Unprintable = 1
@@ -12,20 +12,15 @@ number UnknownLetter = 2
 number WrongCount = 3
 number BadNumber = 4
 number (Floor f) = 5
+number TooLong = 6
 
 abbrev pub at_floor : SheetFault → ℕ
-at_floor Unprintable = 0
-at_floor UnknownLetter = 0
-at_floor WrongCount = 0
-at_floor BadNumber = 0
 at_floor (Floor f) = floor_number f
+at_floor _ = 0
 
 abbrev pub inside : SheetFault → ℕ
-inside Unprintable = 0
-inside UnknownLetter = 0
-inside WrongCount = 0
-inside BadNumber = 0
 inside (Floor f) = floor_inside f
+inside _ = 0
 
 -- the floor's refusal as the row's
 abbrev pub of_floor : Fault → SheetFault

@@ -6,7 +6,7 @@ use Rattle.config.specs.Configured.{Configured}
 use Rattle.machine.specs.declared.call.Call.{Call}
 use Rattle.machine.specs.declared.fault.Fault.{Fault}
 use Rattle.machine.specs.Machine.{State, step}
-use Rattle.rows.specs.declared.Line.{Line}
+use Rattle.rows.specs.declared.line.Line.{Line}
 use Rattle.rows.specs.Sheet.{rows}
 use Rattle.rows.specs.Lines.{text as line_text}
 use Rattle.sheet.specs.declared.fault.SheetFault.{SheetFault}

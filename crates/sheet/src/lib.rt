@@ -1,6 +1,6 @@
+//! Run sheets played on a floor: what a row says, and the lines that a sheet gets.
 #![tactic(auto)]
 
-pub mod convert;
 pub mod fault;
 pub mod line;
 pub mod output;

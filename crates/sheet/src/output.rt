@@ -7,19 +7,17 @@ use crate::player::Player;
 use crate::tally::Tally;
 use crate::verb::Verb;
 use config::service::ConfigService;
-use floor::floor::Floor;
-use machine::tables::Tables;
 use service::Service;
 use std::alloc::{AllocError, Global};
 
-// The lines that a sheet gets, as text, and what was counted.
-#[derive(Drop)]
+/// The lines that a sheet gets, as text, and what was counted.
+#[derive(Debug, Drop)]
 pub struct Output {
     pub text: String,
     pub tally: Tally,
 }
 
-// Plays a sheet on a new floor over blank tables.
+/// Plays a sheet on a new floor over blank tables; an error where memory is wanting.
 pub fn play_new<S: Service, C: ConfigService + Drop, V: Verb<Command = S::Command>>(
     heap: Global,
     config: C,
@@ -28,12 +26,7 @@ pub fn play_new<S: Service, C: ConfigService + Drop, V: Verb<Command = S::Comman
 ) -> Result<Output, AllocError>
     ensures { IfOk result (λ o. Gives (meant_by S.Service) (verbs_by V.Verb) (fresh_world (meant_by S.Service) blank (C.ConfigService.meaning config)) sheet.now o) }
 {
-    let tables = Tables::new(heap, blank)?;
-    let mut player: Player<S, C> = Player {
-        floor: Floor::new(),
-        tables,
-        config,
-    };
+    let mut player: Player<S, C> = Player::new(heap, config, blank)?;
     let mut text = String::new(heap);
     let tally = player.play::<V>(sheet, &mut text)?;
     Ok(Output { text, tally })

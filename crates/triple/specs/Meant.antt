@@ -1,12 +1,12 @@
 -- The three copies as a configuration service.
-use Rattle.std.specs.Prelude.{ℕ, Bool, false, cond, List, Ok, Err, Result, nat_lt, slice_index_or, slice_set}
+use Rattle.std.specs.Prelude.{ℕ, Bool, if◌then◌else◌, List, Ok, Err, Result, count_by, nat_le, nat_lt, slice_set}
 use Rattle.config.specs.declared.row.ConfigRow.{ConfigRow}
 use Rattle.config.specs.declared.row.ConfigFault.{ConfigFault}
 use Rattle.config.specs.Configured.{Configured}
 use Rattle.triple.specs.declared.copies.Copies.{Copies}
 use Rattle.triple.specs.declared.fault.CopyFault.{CopyFault}
 use Rattle.triple.specs.declared.fault.CopyFault.TheVariants.{NoCopy}
-use Rattle.triple.specs.Copies.{two_of, held, longest, copies_stored}
+use Rattle.triple.specs.Copies.{held, longest, copies_stored}
 
 -- the refusal's number
 abbrev pub number : CopyFault → ℕ
@@ -14,7 +14,7 @@ number NoCopy = 5
 
 -- whether two copies or more are up
 abbrev pub two_up : List Bool → Bool
-two_up ups = two_of (slice_index_or ups 0 false) (slice_index_or ups 1 false) (slice_index_or ups 2 false)
+two_up ups = nat_le 2 (count_by (λ up. up) ups)
 
 -- the list is what the longest copy holds, the limit is 32, and the service is open when two copies or more are up
 abbrev pub meant : Copies → List Bool → Configured
@@ -27,12 +27,12 @@ copies_after (Err f) t ups r = t
 
 -- the copies are 0, 1 and 2
 abbrev pub copy_answer : ℕ → Result (Unit {0}) CopyFault
-copy_answer k = cond (nat_lt k 3) (Ok tt) (Err NoCopy)
+copy_answer k = if nat_lt k 3 then Ok tt else Err NoCopy
 
 -- which copies are up once copy k is taken up or down
 abbrev pub turned : List Bool → ℕ → Bool → List Bool
-turned ups k up = cond (nat_lt k 3) (slice_set ups k up) ups
+turned ups k up = if nat_lt k 3 then slice_set ups k up else ups
 
 -- a service that is the same but for whether it is open
 abbrev pub opened : Configured → Bool → Configured
-opened s o = record { all = s.all; limit = s.limit; is_open = o }
+opened s o = record s { is_open = o }

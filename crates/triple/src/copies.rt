@@ -1,44 +1,46 @@
-ghost use Rattle.std.specs.Prelude.{◌≡◌, ℕ, ◌<◌, slice_index_or};
-ghost use Rattle.config.specs.Configured.{no_row};
-ghost use Rattle.triple.specs.Copies.{pushed, longest as longest_of, copies_stored, no_copies};
+ghost use Rattle.std.specs.Prelude.{◌≡◌, ◌<◌, ◌≤◌};
+ghost use Rattle.triple.specs.Copies.{pushed, held as held_by, longer as longer_of, longest as longest_of, copies_stored, no_copies};
 
 use config::row::ConfigRow;
+use config::service::EPOCHS;
+use std::array;
 
-// One copy of the list: its first `len` rows.
-#[derive(Clone, Copy)]
+// One copy of the list: its first `len` rows. They are no `ArrayVec`, since a copy is made level
+// with another by assignment, where an `ArrayVec` has only a clone that may fail.
+#[derive(Clone, Copy, Debug, PartialEq, Eq)]
 pub struct CopyRows {
-    rows: [ConfigRow; 32],
+    rows: [ConfigRow; EPOCHS as usize],
     len: u32,
 }
 
 // Three copies of one list.
-#[derive(Clone, Copy)]
+#[derive(Clone, Copy, Debug, PartialEq, Eq)]
 pub struct Copies {
-    copy0: CopyRows,
-    copy1: CopyRows,
-    copy2: CopyRows,
+    at: [CopyRows; 3],
 }
 
 impl CopyRows {
-    pub(crate) fn len(&self) -> u32
-        ensures { result ≡ self.now.len }
+    pub(crate) fn held(&self) -> &[ConfigRow]
+        requires { self.now.len ≤ 32 }
+        ensures { result.now ≡ held_by self.now }
     {
-        self.len
+        &self.rows[..self.len as usize]
     }
 
-    pub(crate) fn row(&self, i: u32) -> ConfigRow
-        requires { i < 32 }
-        ensures { result ≡ slice_index_or self.now.rows i no_row }
+    // The longer of two copies; this one, where they are level.
+    fn longer<'a>(&'a self, other: &'a CopyRows) -> &'a CopyRows
+        ensures { result.now ≡ longer_of self.now other.now }
     {
-        self.rows[i as usize]
+        if self.len < other.len { other } else { self }
     }
 
-    fn push(&mut self, row: ConfigRow)
-        requires { self.old.len < 32 }
-        ensures { self.new ≡ pushed self.old row }
+    fn with(mut self, row: ConfigRow) -> CopyRows
+        requires { self.len < 32 }
+        ensures { result ≡ pushed self row }
     {
         self.rows[self.len as usize] = row;
         self.len += 1;
+        self
     }
 }
 
@@ -47,33 +49,18 @@ impl Copies {
         ensures { result ≡ no_copies }
     {
         let empty = CopyRows {
-            rows: [ConfigRow {
-                members: 0,
-                leader: 0,
-            }; 32],
+            rows: [ConfigRow::default(); EPOCHS as usize],
             len: 0,
         };
-        Copies {
-            copy0: empty,
-            copy1: empty,
-            copy2: empty,
-        }
+        Copies { at: [empty; 3] }
     }
 
     // The first of the longest copies.
     pub(crate) fn longest(&self) -> &CopyRows
         ensures { result.now ≡ longest_of self.now }
     {
-        let longer = if self.copy0.len < self.copy1.len {
-            &self.copy1
-        } else {
-            &self.copy0
-        };
-        if longer.len < self.copy2.len {
-            &self.copy2
-        } else {
-            longer
-        }
+        let [first, second, third] = &self.at;
+        first.longer(second).longer(third)
     }
 
     // Brings each copy that is up level with the longest, and appends the row to it.
@@ -81,18 +68,12 @@ impl Copies {
         requires { (longest_of self.old).len < 32 }
         ensures { self.new ≡ copies_stored self.old up.now row }
     {
-        let longest = *self.longest();
-        if up[0] {
-            self.copy0 = longest;
-            self.copy0.push(row);
-        }
-        if up[1] {
-            self.copy1 = longest;
-            self.copy1.push(row);
-        }
-        if up[2] {
-            self.copy2 = longest;
-            self.copy2.push(row);
-        }
+        let level = self.longest().with(row);
+        let before = *self;
+        self.at = array::from_fn(
+            |i|
+                requires { i < 3 }
+            { if up[i] { level } else { before.at[i] } },
+        );
     }
 }

@@ -1,3 +1,4 @@
+//! A configuration service whose list is kept in three copies.
 #![tactic(auto)]
 
 mod copies;

@@ -1,71 +1,96 @@
-ghost use Rattle.std.specs.Prelude.{◌≡◌, ℕ, ◌<◌, ◌≤◌, true, None, vec_len, slice_index_or};
+ghost use Rattle.std.specs.Prelude.{◌≡◌, IfOk, IsTrue, Some, None, if◌then◌else◌, vec_len};
 ghost use Rattle.service.specs.Meant.{meant_by};
-ghost use Rattle.machine.specs.Rows.{no_controller};
-ghost use Rattle.machine.specs.Machine.{long, absent, space, post as posting, send as sending};
-ghost use Rattle.floor.specs.Seen.{seen};
+ghost use Rattle.machine.specs.Machine.{long, space};
+ghost use Rattle.machine.specs.declared.fault.Fault.TheVariants.{BagFull};
+ghost use Rattle.floor.specs.Asked.{refusal, no_id, not_running, lead_of};
+ghost use Rattle.floor.specs.Seen.{seen, controller_at, AreLong};
 ghost use Rattle.floor.specs.Lawful.{Sound};
 
 use super::Floor;
-use crate::stretch::MOST_SENT;
-use config::members::CONTROLLERS;
-use machine::envelope::Envelope;
+use crate::ids::ControllerId;
+use config::members::{CONTROLLERS, Members};
+use config::service::EPOCHS;
+use machine::controller::{Controller, Lead, Role};
 use machine::fault::Fault;
-use machine::tables::Tables;
+use machine::tables::{MOST_SENT, PLACES, Tables};
 use service::Service;
 
-// Whether the tables are long enough.
-pub(crate) fn long_enough<S: Service>(tables: &Tables<S>) -> bool
+// Whether the tables are long enough. They are lent, of any length, so that each call asks it first; a
+// turn then carries it.
+pub(super) fn long_enough<S: Service>(tables: &Tables<S>) -> bool
     ensures answer { result ≡ long (vec_len tables.now.entries) (vec_len tables.now.openings) (vec_len tables.now.committed) (vec_len tables.now.speculative) (vec_len tables.now.envelopes) }
-    ensures rows { result ≡ true → (512 ≤ vec_len tables.now.entries) × (2048 ≤ vec_len tables.now.openings) × (8 ≤ vec_len tables.now.committed) × (8 ≤ vec_len tables.now.speculative) × (1024 ≤ vec_len tables.now.envelopes) }
+    ensures rows { IsTrue result → AreLong tables.now }
 {
-    tables.entries.len() >= 512
-        && tables.openings.len() >= 2048
-        && tables.committed.len() >= 8
-        && tables.speculative.len() >= 8
-        && tables.envelopes.len() >= 1024
-}
-
-// Whether a bag with `sent` envelopes has space for what is sent to these.
-pub(crate) fn has_space(sent: u32, to: u8) -> bool
-    ensures { result ≡ space sent to }
-{
-    to == 0 || sent < MOST_SENT
+    tables.entries.len() >= (CONTROLLERS * PLACES) as usize
+        && tables.openings.len() >= (EPOCHS * PLACES) as usize
+        && tables.committed.len() >= CONTROLLERS as usize
+        && tables.speculative.len() >= CONTROLLERS as usize
+        && tables.envelopes.len() >= MOST_SENT as usize
 }
 
 impl Floor {
-    // Why the controller cannot be called at all: not started, no such controller, or stopped.
-    pub(super) fn absence(&self, controller: u32) -> Option<Fault>
-        ensures answer { result ≡ absent self.now.started self.now.controllers controller }
-        ensures within { result ≡ None → (controller < 8) × Sound (slice_index_or self.now.controllers controller no_controller) }
+    // The controller's number; refused where the tables are too short, the floor is not started, or
+    // there is no such controller.
+    pub(super) fn id_of<S: Service>(
+        &self,
+        tables: &Tables<S>,
+        controller: u32,
+    ) -> Result<ControllerId, Fault>
+        ensures answer { refusal result ≡ no_id (meant_by S.Service) (seen self.now tables.now) controller }
+        ensures same { IfOk result (λ id. id.number ≡ controller) }
+        ensures long { IfOk result (λ _. AreLong tables.now) }
     {
+        if !long_enough(tables) {
+            return Err(Fault::ShortTables);
+        }
         if !self.started {
-            return Some(Fault::NotStarted);
+            return Err(Fault::NotStarted);
         }
-        if controller >= CONTROLLERS {
-            return Some(Fault::OutOfRange);
-        }
-        if !self.controllers[controller as usize].running {
-            return Some(Fault::Stopped);
-        }
-        None
+        ControllerId::new(controller).ok_or(Fault::OutOfRange)
     }
 
-    // Puts an envelope into the bag.
-    pub(super) fn post<S: Service>(&mut self, tables: &mut Tables<S>, envelope: Envelope<S::Update>)
-        requires { (self.old.sent < 1024) × (1024 ≤ vec_len tables.old.envelopes) }
-        ensures { seen self.new tables.new ≡ posting (meant_by S.Service) (seen self.old tables.old) envelope }
+    // The same; refused also where the controller is stopped.
+    pub(super) fn running<S: Service>(
+        &self,
+        tables: &Tables<S>,
+        controller: u32,
+    ) -> Result<ControllerId, Fault>
+        ensures answer { refusal result ≡ not_running (meant_by S.Service) (seen self.now tables.now) controller }
+        ensures same { IfOk result (λ id. id.number ≡ controller) }
+        ensures long { IfOk result (λ _. AreLong tables.now) }
     {
-        tables.envelopes[self.sent as usize] = envelope;
-        self.sent += 1;
+        let id = self.id_of(tables, controller)?;
+        if !self.at(id).running {
+            return Err(Fault::Stopped);
+        }
+        Ok(id)
     }
 
-    // The same, where it has an addressee.
-    pub(super) fn send<S: Service>(&mut self, tables: &mut Tables<S>, envelope: Envelope<S::Update>)
-        requires { (space self.old.sent envelope.to ≡ true) × (1024 ≤ vec_len tables.old.envelopes) }
-        ensures { seen self.new tables.new ≡ sending (meant_by S.Service) (seen self.old tables.old) envelope }
+    // The controller of the number.
+    pub(super) fn at(&self, id: ControllerId) -> Controller
+        ensures there { result ≡ controller_at self.now id }
+        ensures sound { Sound result }
     {
-        if envelope.to != 0 {
-            self.post(tables, envelope);
+        self.controllers[id.index()]
+    }
+
+    // What the controller keeps as a leader.
+    pub(super) fn lead(&self, id: ControllerId) -> Result<Lead, Fault>
+        ensures { result ≡ lead_of (controller_at self.now id).role }
+    {
+        match self.at(id).role {
+            Role::Leader(lead) => Ok(lead),
+            Role::Fresh | Role::Follower => Err(Fault::WrongState),
         }
+    }
+
+    // Refused where the bag has no space for what is sent to these.
+    pub(super) fn space_for(&self, to: Members) -> Result<(), Fault>
+        ensures { refusal result ≡ (if space self.now.sent to then None else Some BagFull) }
+    {
+        if !to.is_empty() && self.sent >= MOST_SENT {
+            return Err(Fault::BagFull);
+        }
+        Ok(())
     }
 }

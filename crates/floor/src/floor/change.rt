@@ -1,131 +1,71 @@
-ghost use Rattle.std.specs.Prelude.{◌≡◌, ℕ, ◌-◌, slice_index, slice_index_or};
+ghost use Rattle.std.specs.Prelude.{◌≡◌, ◌-◌, ◌<◌, ◌≤◌, true, slice_index};
 ghost use Rattle.service.specs.Meant.{meant_by};
 ghost use Rattle.config.specs.Members.{without as without_one};
-ghost use Rattle.machine.specs.Rows.{no_controller};
-ghost use Rattle.machine.specs.Machine.{probed, opened_by, joined_by};
-ghost use Rattle.floor.specs.Seen.{seen, Probing, Opening, Joining};
+ghost use Rattle.machine.specs.Machine.{probed, opened_by, joined_by, space};
+ghost use Rattle.floor.specs.Turn.{seen_by, mine, Same};
 
-use super::Floor;
-use crate::stretch::{keep_opening, run_part, take_opening};
-use config::members::{only, without};
+use super::turn::Turn;
+use crate::ids::EpochId;
+use config::members::{CONTROLLERS, Members};
 use machine::controller::{Controller, Lead, Role};
-use machine::envelope::{Envelope, Message};
-use machine::tables::Tables;
+use machine::envelope::Message;
 use service::Service;
 
 // What an envelope about a change of configuration makes of the controller that takes it.
-impl Floor {
+impl<S: Service> Turn<'_, S> {
     // It promises to wait for the new epoch, and ANSWER goes to the seat: yes where it has come as
     // far as the stage.
-    pub(super) fn take_probe<S: Service>(
-        &mut self,
-        tables: &mut Tables<S>,
-        controller: u32,
-        new: u32,
-        epoch: u32,
-        seat: u32,
-    )
-        requires { Probing self.old tables.old controller }
-        ensures { seen self.new tables.new ≡ probed (meant_by S.Service) (seen self.old tables.old) controller (slice_index_or self.old.controllers controller no_controller) new epoch seat }
+    pub(super) fn take_probe(&mut self, new: u32, epoch: u32, seat: u32)
+        requires space { self.old.floor.now.sent < 1024 }
+        ensures same { Same self.old self.new }
+        ensures after { seen_by self.new ≡ probed (meant_by S.Service) (seen_by self.old) self.old.id.number (mine self.old) new epoch seat }
     {
-        let c = controller as usize;
-        let me = self.controllers[c];
-        self.controllers[c].promise = new;
+        let me = self.me();
+        self.put(Controller { promise: new, ..me });
         let message = Message::Answer {
             yes: epoch <= me.epoch,
             new,
             epoch,
-            follower: controller,
+            follower: self.id.number(),
             seat,
         };
-        self.post(
-            tables,
-            Envelope {
-                sender: controller,
-                to: 0,
-                message,
-            },
-        );
+        self.post(Members::NONE, message);
     }
 
     // It leads the epoch: its list is the opening list, all of it is in the speculative state, and
     // NEWSTATE goes to the other members.
-    pub(super) fn take_newconfig<S: Service>(
-        &mut self,
-        tables: &mut Tables<S>,
-        controller: u32,
-        epoch: u32,
-        members: u8,
-    )
-        requires { Opening self.old tables.old controller epoch (without_one members controller) }
-        ensures { seen self.new tables.new ≡ opened_by (meant_by S.Service) (seen self.old tables.old) controller (slice_index_or self.old.controllers controller no_controller) epoch members }
+    pub(super) fn take_newconfig(&mut self, epoch: EpochId, members: Members)
+        requires space { space self.old.floor.now.sent (without_one members self.old.id.number) ≡ true }
+        ensures same { Same self.old self.new }
+        ensures after { seen_by self.new ≡ opened_by (meant_by S.Service) (seen_by self.old) self.old.id.number (mine self.old) epoch.number members }
     {
-        let c = controller as usize;
-        let me = self.controllers[c];
-        let length = me.length as usize;
-        let state = tables.committed[c];
-        let delivered = me.delivered as usize;
-        tables.speculative[c] = run_part(state, &tables.entries, c, delivered, length);
-        keep_opening(tables, epoch, c, length);
-        self.lengths[(epoch - 1) as usize] = me.length;
-        let told = [None; 8];
+        let me = self.me();
+        self.tables.speculative[self.id.index()] = self.caught_up(me.length);
+        self.keep_opening(epoch);
         let lead = Lead {
             members,
-            told,
+            told: [None; CONTROLLERS as usize],
             settled: 0,
         };
-        self.controllers[c] = Controller {
+        self.put(Controller {
             role: Role::Leader(lead),
-            epoch,
+            epoch: epoch.number(),
             ..me
+        });
+        let message = Message::NewState {
+            epoch: epoch.number(),
         };
-        let to = without(members, controller);
-        let message = Message::NewState { epoch };
-        self.send(
-            tables,
-            Envelope {
-                sender: controller,
-                to,
-                message,
-            },
-        );
+        self.send(members.without(self.id.number()), message);
     }
 
     // It follows in the epoch with the opening list, and HELD goes to its sender.
-    pub(super) fn take_newstate<S: Service>(
-        &mut self,
-        tables: &mut Tables<S>,
-        controller: u32,
-        sender: u32,
-        epoch: u32,
-    )
-        requires { Joining self.old tables.old controller epoch sender }
-        ensures { seen self.new tables.new ≡ joined_by (meant_by S.Service) (seen self.old tables.old) controller (slice_index_or self.old.controllers controller no_controller) epoch sender (slice_index self.old.lengths (epoch - 1)) }
+    pub(super) fn take_newstate(&mut self, sender: u32, epoch: EpochId)
+        requires ground { (mine self.old).delivered ≤ slice_index self.old.floor.now.lengths (epoch.number - 1) }
+        requires space { self.old.floor.now.sent < 1024 }
+        ensures same { Same self.old self.new }
+        ensures after { seen_by self.new ≡ joined_by (meant_by S.Service) (seen_by self.old) self.old.id.number (mine self.old) epoch.number sender (slice_index self.old.floor.now.lengths (epoch.number - 1)) }
     {
-        let c = controller as usize;
-        let me = self.controllers[c];
-        let length = self.lengths[(epoch - 1) as usize];
-        take_opening(tables, c, epoch, length as usize);
-        self.controllers[c] = Controller {
-            role: Role::Follower,
-            epoch,
-            promise: epoch,
-            length,
-            ..me
-        };
-        let to = only(sender);
-        let message = Message::Held {
-            epoch,
-            length,
-            follower: controller,
-        };
-        self.send(
-            tables,
-            Envelope {
-                sender: controller,
-                to,
-                message,
-            },
-        );
+        self.take_opening(epoch);
+        self.send_held(sender, epoch.number());
     }
 }

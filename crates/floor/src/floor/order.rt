@@ -1,24 +1,23 @@
-ghost use Rattle.std.specs.Prelude.{◌≡◌, ℕ, slice_index_or};
+ghost use Rattle.std.specs.Prelude.{◌≡◌, ◌<◌, true};
 ghost use Rattle.service.specs.Meant.{meant_by};
 ghost use Rattle.config.specs.Members.{without as without_one};
-ghost use Rattle.machine.specs.Rows.{no_controller};
-ghost use Rattle.machine.specs.Machine.{ordered, entered};
-ghost use Rattle.floor.specs.Seen.{seen, Entering};
+ghost use Rattle.machine.specs.Machine.{ordered, entered, space};
+ghost use Rattle.floor.specs.Turn.{seen_by, mine, Same};
+ghost use Rattle.floor.specs.Seen.{seen};
 
 use super::Floor;
-use super::asks::{has_space, long_enough};
-use crate::stretch::{PLACES, append_entry, holds_at};
-use config::members::without;
+use super::turn::Turn;
+use crate::stretch::Stretch;
 use entries::Entry;
-use machine::controller::{Lead, Role};
-use machine::envelope::{Envelope, Message};
+use machine::controller::Lead;
+use machine::envelope::Message;
 use machine::fault::Fault;
-use machine::tables::Tables;
+use machine::tables::{PLACES, Tables};
 use service::Service;
 
 impl Floor {
-    // The leader works the command in its speculative state, appends the entry, applies the update
-    // there, sends ACCEPT to the other members, and answers the reply.
+    /// The leader works the command in its speculative state, appends the entry, applies the update
+    /// there, sends ACCEPT to the other members, and answers the reply.
     pub fn order<S: Service>(
         &mut self,
         tables: &mut Tables<S>,
@@ -28,69 +27,49 @@ impl Floor {
     ) -> Result<u32, Fault>
         ensures { record { answer = result; after = seen self.new tables.new } ≡ ordered (meant_by S.Service) (seen self.old tables.old) controller serial command }
     {
-        if !long_enough(tables) {
-            return Err(Fault::ShortTables);
-        }
-        if let Some(fault) = self.absence(controller) {
-            return Err(fault);
-        }
-        let c = controller as usize;
-        let me = self.controllers[c];
-        let length = me.length as usize;
-        let Role::Leader(lead) = me.role else {
-            return Err(Fault::WrongState);
-        };
-        if holds_at(&tables.entries, c, length, serial) {
+        let id = self.running(tables, controller)?;
+        let me = self.at(id);
+        let lead = self.lead(id)?;
+        if Stretch::new(id, me.length).holds(&tables.entries, serial) {
             return Err(Fault::SerialTaken);
         }
-        if length >= PLACES {
+        if me.length >= PLACES {
             return Err(Fault::ListFull);
         }
-        let state = tables.speculative[c];
+        let state = tables.speculative[id.index()];
         let worked = state.work(command)?;
-        let to = without(lead.members, controller);
-        if !has_space(self.sent, to) {
-            return Err(Fault::BagFull);
-        }
+        self.space_for(lead.members.without(controller))?;
         let entry = Entry {
             epoch: me.epoch,
             serial,
             update: worked.update,
         };
-        self.enter(tables, controller, lead, entry, state.apply(worked.update));
+        let mut turn = Turn {
+            floor: self,
+            tables,
+            id,
+        };
+        turn.enter(&lead, entry, state.apply(worked.update));
         Ok(worked.reply)
     }
+}
 
+impl<S: Service> Turn<'_, S> {
     // Past every question: the entry is in the list, the next state in its place, ACCEPT in the bag.
-    fn enter<S: Service>(
-        &mut self,
-        tables: &mut Tables<S>,
-        controller: u32,
-        lead: Lead,
-        entry: Entry<S::Update>,
-        next: S,
-    )
-        requires { Entering self.old tables.old controller (without_one lead.members controller) }
-        ensures { seen self.new tables.new ≡ entered (meant_by S.Service) (seen self.old tables.old) controller (slice_index_or self.old.controllers controller no_controller) lead entry next }
+    fn enter(&mut self, lead: &Lead, entry: Entry<S::Update>, next: S)
+        requires room { (mine self.old).length < 64 }
+        requires space { space self.old.floor.now.sent (without_one lead.now.members self.old.id.number) ≡ true }
+        ensures same { Same self.old self.new }
+        ensures after { seen_by self.new ≡ entered (meant_by S.Service) (seen_by self.old) self.old.id.number (mine self.old) lead.now entry next }
     {
-        let c = controller as usize;
-        let me = self.controllers[c];
-        tables.speculative[c] = next;
-        append_entry(tables, c, me.length as usize, entry);
-        self.controllers[c].length += 1;
+        let me = self.me();
+        self.tables.speculative[self.id.index()] = next;
+        self.append(entry);
         let message = Message::Accept {
             epoch: me.epoch,
             place: me.length,
             entry,
         };
-        let to = without(lead.members, controller);
-        self.send(
-            tables,
-            Envelope {
-                sender: controller,
-                to,
-                message,
-            },
-        );
+        self.send(lead.members.without(self.id.number()), message);
     }
 }

@@ -1,4 +1,4 @@
-ghost use Rattle.std.specs.Prelude.{◌≡◌, ℕ};
+ghost use Rattle.std.specs.Prelude.{◌≡◌};
 ghost use Rattle.service.specs.Meant.{meant_by};
 ghost use Rattle.machine.specs.Machine.{step};
 ghost use Rattle.floor.specs.Seen.{seen};
@@ -11,7 +11,7 @@ use machine::tables::Tables;
 use service::Service;
 
 impl Floor {
-    // Makes the call.
+    /// Makes the call.
     pub fn perform<S: Service, C: ConfigService>(
         &mut self,
         tables: &mut Tables<S>,

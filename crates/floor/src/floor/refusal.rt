@@ -1,89 +1,81 @@
-ghost use Rattle.std.specs.Prelude.{◌≡◌, ℕ, true, ◌&&◌, None, ◌==◌, nat_le, nat_lt};
+ghost use Rattle.std.specs.Prelude.{◌≡◌, true, ◌&&◌, IfOk, ◌==◌, nat_le, nat_lt};
 ghost use Rattle.machine.specs.Machine.{in_range, untaken, unhanded};
+ghost use Rattle.floor.specs.Asked.{refusal};
 ghost use Rattle.floor.specs.Ground.{Ground};
+ghost use Rattle.floor.specs.Seen.{controller_at};
 
-use super::asks::has_space;
-use crate::stretch::{MOST_ENTRIES, MOST_SENT};
-use config::members::{CONTROLLERS, has, without};
+use super::Floor;
+use crate::ids::ControllerId;
+use config::members::CONTROLLERS;
+use config::service::EPOCHS;
 use machine::controller::Controller;
 use machine::envelope::{Envelope, Message};
 use machine::fault::Fault;
+use machine::seat::SEATS;
+use machine::tables::{MOST_SENT, PLACES};
 
-// How many epochs there are.
-const EPOCHS: u32 = 32;
-
-// How many change seats there are.
-const SEATS: u32 = 4;
-
-// The first refusal of an envelope that is handed to controller c, which is `me`, with `sent`
-// envelopes in the bag and opening lists of these lengths.
-pub(crate) fn first_refusal<U: Copy>(
-    sent: u32,
-    lengths: &[u32; 32],
-    c: u32,
-    me: &Controller,
-    envelope: &Envelope<U>,
-) -> Option<Fault>
-    ensures answer { result ≡ unhanded sent lengths.now c me.now envelope.now }
-    ensures ground { result ≡ None → Ground sent lengths.now c me.now envelope.now.sender envelope.now.message }
-{
-    if !is_in_range(envelope) {
-        return Some(Fault::OutOfRange);
+// What an envelope is refused for.
+impl Floor {
+    // The first refusal of an envelope that is handed to the controller.
+    pub(super) fn may_hand<U: Copy>(
+        &self,
+        id: ControllerId,
+        envelope: &Envelope<U>,
+    ) -> Result<(), Fault>
+        ensures answer { refusal result ≡ unhanded self.now.sent self.now.lengths id.number (controller_at self.now id) envelope.now }
+        ensures known { IfOk result (λ _. Ground self.now id envelope.now.sender envelope.now.message) }
+    {
+        if !is_in_range(envelope) {
+            return Err(Fault::OutOfRange);
+        }
+        if !self.at(id).running {
+            return Err(Fault::Stopped);
+        }
+        if !envelope.to.has(id.number()) {
+            return Err(Fault::NotAddressed);
+        }
+        self.may_take(id, envelope)
     }
-    if !me.running {
-        return Some(Fault::Stopped);
-    }
-    if !has(envelope.to, c) {
-        return Some(Fault::NotAddressed);
-    }
-    untaken_by(sent, lengths, c, me, envelope)
-}
 
-// The same of an envelope that is in range and addressed to a running controller.
-fn untaken_by<U: Copy>(
-    sent: u32,
-    lengths: &[u32; 32],
-    c: u32,
-    me: &Controller,
-    envelope: &Envelope<U>,
-) -> Option<Fault>
-    requires { in_range envelope.now.sender envelope.now.message ≡ true }
-    ensures answer { result ≡ untaken sent lengths.now c me.now envelope.now.message }
-    ensures ground { result ≡ None → Ground sent lengths.now c me.now envelope.now.sender envelope.now.message }
-{
-    match envelope.message {
-        Message::Commit { epoch, .. } if !me.takes_part(epoch) => Some(Fault::WrongState),
-        Message::Commit { count, .. } if count <= me.delivered => Some(Fault::NothingNew),
-        Message::Commit { count, .. } if count > me.length => Some(Fault::NoGround),
-        Message::Accept { epoch, .. } if !me.follows(epoch) => Some(Fault::WrongState),
-        Message::Accept { place, .. } if place < me.length => Some(Fault::NothingNew),
-        Message::Accept { place, .. } if place > me.length => Some(Fault::NoGround),
-        Message::Accept { .. } if me.length >= MOST_ENTRIES => Some(Fault::ListFull),
-        Message::Accept { .. } if sent >= MOST_SENT => Some(Fault::BagFull),
-        Message::Held {
-            epoch,
-            follower,
-            ..
-        } if !me.leads(epoch, c, follower) => Some(Fault::WrongState),
-        Message::Held {
-            length,
-            follower,
-            ..
-        } if !me.hears_more(follower, length) => Some(Fault::NothingNew),
-        Message::Held { length, .. } if length > me.length => Some(Fault::NoGround),
-        Message::Probe { new, .. } if me.promise > new => Some(Fault::WrongState),
-        Message::Probe { .. } if sent >= MOST_SENT => Some(Fault::BagFull),
-        Message::Answer { .. } => Some(Fault::NotAddressed),
-        Message::NewConfig { epoch, .. } if !may_open(me, epoch) => Some(Fault::WrongState),
-        Message::NewConfig { members, .. } if !has_space(sent, without(members, c)) => Some(
-            Fault::BagFull,
-        ),
-        Message::NewState { epoch } if !awaits(me, epoch) => Some(Fault::WrongState),
-        Message::NewState { epoch } if lengths[(epoch - 1) as usize] < me.delivered => Some(
-            Fault::NoGround,
-        ),
-        Message::NewState { .. } if sent >= MOST_SENT => Some(Fault::BagFull),
-        _ => None,
+    // The same of an envelope that is in range and addressed to a running controller.
+    fn may_take<U: Copy>(&self, id: ControllerId, envelope: &Envelope<U>) -> Result<(), Fault>
+        requires { in_range envelope.now.sender envelope.now.message ≡ true }
+        ensures answer { refusal result ≡ untaken self.now.sent self.now.lengths id.number (controller_at self.now id) envelope.now.message }
+        ensures known { IfOk result (λ _. Ground self.now id envelope.now.sender envelope.now.message) }
+    {
+        let c = id.number();
+        let me = self.at(id);
+        match envelope.message {
+            Message::Commit { epoch, .. } if !me.takes_part(epoch) => Err(Fault::WrongState),
+            Message::Commit { count, .. } if count <= me.delivered => Err(Fault::NothingNew),
+            Message::Commit { count, .. } if count > me.length => Err(Fault::NoGround),
+            Message::Accept { epoch, .. } if !me.follows(epoch) => Err(Fault::WrongState),
+            Message::Accept { place, .. } if place < me.length => Err(Fault::NothingNew),
+            Message::Accept { place, .. } if place > me.length => Err(Fault::NoGround),
+            Message::Accept { .. } if me.length >= PLACES => Err(Fault::ListFull),
+            Message::Held {
+                epoch,
+                follower,
+                ..
+            } if !me.leads(epoch, c, follower) => Err(Fault::WrongState),
+            Message::Held {
+                length,
+                follower,
+                ..
+            } if !me.hears_more(follower, length) => Err(Fault::NothingNew),
+            Message::Held { length, .. } if length > me.length => Err(Fault::NoGround),
+            Message::Probe { new, .. } if me.promise > new => Err(Fault::WrongState),
+            Message::Answer { .. } => Err(Fault::NotAddressed),
+            Message::NewConfig { epoch, .. } if !may_open(&me, epoch) => Err(Fault::WrongState),
+            Message::NewConfig { members, .. } => self.space_for(members.without(c)),
+            Message::NewState { epoch } if !awaits(&me, epoch) => Err(Fault::WrongState),
+            Message::NewState { epoch } if self.lengths[(epoch - 1) as usize] < me.delivered => Err(
+                Fault::NoGround,
+            ),
+            Message::Accept { .. } | Message::Probe { .. } | Message::NewState { .. }
+                if self.sent >= MOST_SENT => Err(Fault::BagFull),
+            _ => Ok(()),
+        }
     }
 }
 

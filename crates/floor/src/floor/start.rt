@@ -1,80 +1,97 @@
-ghost use Rattle.std.specs.Prelude.{◌≡◌, ℕ, ◌≤◌, true, length, vec_len};
+ghost use Rattle.std.specs.Prelude.{◌≡◌, ◌<◌, ◌≤◌, true, length, slice_index_or};
 ghost use Rattle.service.specs.Meant.{meant_by};
-ghost use Rattle.machine.specs.Rows.{all_joined, joined as joined_as};
+ghost use Rattle.machine.specs.Rows.{no_controller, all_joined, joined as joined_as};
 ghost use Rattle.machine.specs.Machine.{started_by, opened, all_first};
-ghost use Rattle.floor.specs.New.{New};
-ghost use Rattle.floor.specs.Seen.{seen};
+ghost use Rattle.floor.specs.New.{New, fresh as fresh_controller};
+ghost use Rattle.floor.specs.Seen.{seen, AreLong};
 
 use super::asks::long_enough;
-use super::{Floor, Seats};
+use super::{Controllers, Floor, Seats};
 use config::configuration::Configuration;
-use config::members::{CONTROLLERS, has};
+use config::members::{CONTROLLERS, Members};
 use config::row::ConfigRow;
-use config::service::ConfigService;
+use config::service::{ConfigService, EPOCHS};
 use machine::controller::{Controller, Lead, Role};
 use machine::fault::Fault;
-use machine::seat::Seat;
+use machine::seat::{SEATS, Seat};
 use machine::tables::Tables;
 use service::Service;
+use std::array;
 
-// The controller `this` as the start of an epoch 1 with this configuration leaves it.
-fn joined(row: ConfigRow, this: u32, controller: Controller) -> Controller
-    ensures { result ≡ joined_as row.members row.leader this controller }
+// A controller that has done nothing yet.
+fn fresh() -> Controller
+    ensures { result ≡ fresh_controller }
 {
-    if !has(row.members, this) {
-        return controller;
-    }
-    let role = if this == row.leader as u32 {
-        Role::Leader(Lead::first(row.members, this))
-    } else {
-        Role::Follower
-    };
     Controller {
-        running: controller.running,
-        role,
-        epoch: 1,
-        promise: 1,
+        running: true,
+        role: Role::Fresh,
+        epoch: 0,
+        promise: 0,
         length: 0,
         delivered: 0,
     }
 }
 
+// The controller `this` as the start of an epoch 1 with this configuration leaves it.
+fn joined(row: &ConfigRow, controllers: &Controllers, this: usize) -> Controller
+    requires { this < 8 }
+    ensures { result ≡ joined_as row.now.members row.now.leader this (slice_index_or controllers.now this no_controller) }
+{
+    let controller = controllers[this];
+    let members = Members::from(row.members);
+    if !members.has(this as u32) {
+        return controller;
+    }
+    let role = if this == row.leader as usize {
+        Role::Leader(Lead::first(members, this as u32))
+    } else {
+        Role::Follower
+    };
+    Controller {
+        role,
+        epoch: 1,
+        promise: 1,
+        length: 0,
+        delivered: 0,
+        ..controller
+    }
+}
+
+// What the start of epoch 1 makes of the controllers.
+#[tactic(auto, unfolding(machine::specs::Rows::all_joined))]
+fn joined_all(row: &ConfigRow, controllers: &Controllers) -> Controllers
+    ensures { result ≡ all_joined row.now.members row.now.leader controllers.now }
+{
+    array::from_fn(|c| joined(row, controllers, c))
+}
+
 // Every controller's state becomes the first.
+#[tactic(auto, unfolding(machine::specs::Machine::all_first))]
 fn reset<S: Service>(states: &mut [S])
     requires { 8 ≤ length states.old }
     ensures { states.new ≡ all_first S.Service.opening states.old }
 {
-    for c in 0..8usize {
-        states[c] = S::first();
-    }
+    states[..CONTROLLERS as usize].copy_from_slice(&[S::first(); CONTROLLERS as usize]);
 }
 
 impl Floor {
-    // A floor that is not started: all controllers are running and fresh, all seats idle, and no
-    // envelope is sent.
+    /// A floor that is not started: all controllers are running and fresh, all seats idle, and no
+    /// envelope is sent.
     pub fn new() -> Floor
         ensures { New result }
     {
-        let fresh = Controller {
-            running: true,
-            role: Role::Fresh,
-            epoch: 0,
-            promise: 0,
-            length: 0,
-            delivered: 0,
-        };
         Floor {
             started: false,
-            controllers: [fresh; 8],
+            controllers: [fresh(); CONTROLLERS as usize],
             seats: Seats {
-                at: [Seat::Idle; 4],
+                at: [Seat::Idle; SEATS as usize],
             },
-            lengths: [0; 32],
+            lengths: [0; EPOCHS as usize],
             sent: 0,
         }
     }
 
-    // Epoch 1 is stored, its members join it, and every state becomes the first. Answers 1.
+    /// Epoch 1 is stored, its members join it, and every state becomes the first. Answers 1.
     pub fn start<S: Service, C: ConfigService>(
         &mut self,
         tables: &mut Tables<S>,
@@ -90,35 +107,23 @@ impl Floor {
         if self.started {
             return Err(Fault::Started);
         }
-        let Some(configuration) = Configuration::new(members, leader) else {
-            return Err(Fault::Unlawful);
-        };
-        config.store(0, configuration)?;
-        self.open_first(tables, configuration.row());
+        let configuration = Configuration::new(members, leader).ok_or(Fault::Unlawful)?;
+        // a copy, since a value with a model inside is moved when it is passed
+        let stored = configuration;
+        config.store(0, stored)?;
+        self.open_first(tables, ConfigRow::from(configuration));
         Ok(1)
     }
 
     // Past every question: the members join epoch 1, and every state becomes the first.
+    #[tactic(auto, using(crate::proofs::Lawfuls::lawful_joined))]
     fn open_first<S: Service>(&mut self, tables: &mut Tables<S>, row: ConfigRow)
-        requires { (8 ≤ vec_len tables.old.committed) × (8 ≤ vec_len tables.old.speculative) }
+        requires { AreLong tables.old }
         ensures { seen self.new tables.new ≡ opened (meant_by S.Service) (seen self.old tables.old) row }
     {
-        self.join(row);
+        self.started = true;
+        self.controllers = joined_all(&row, &self.controllers);
         reset(&mut tables.committed);
         reset(&mut tables.speculative);
-    }
-
-    // The members join epoch 1.
-    fn join(&mut self, row: ConfigRow)
-        ensures started { self.new.started ≡ true }
-        ensures sent { self.new.sent ≡ self.old.sent }
-        ensures seats { self.new.seats.at ≡ self.old.seats.at }
-        ensures lengths { self.new.lengths ≡ self.old.lengths }
-        ensures controllers { self.new.controllers ≡ all_joined row.members row.leader self.old.controllers }
-    {
-        self.started = true;
-        for c in 0..CONTROLLERS {
-            self.controllers[c as usize] = joined(row, c, self.controllers[c as usize]);
-        }
     }
 }
