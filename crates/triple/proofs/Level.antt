@@ -5,7 +5,7 @@ use Rattle.std.proofs.lemmas.List.Elements.{All-nil, All-cons}
 use Rattle.std.proofs.lemmas.Bool.Decides.{nat_tests}
 use Rattle.config.specs.declared.row.ConfigRow.{ConfigRow}
 use Rattle.config.specs.Members.{lawful}
-use Rattle.config.specs.Configured.{last, epoch_after}
+use Rattle.config.specs.Configured.{last}
 use Rattle.config.specs.Rows.{Lawful}
 use Rattle.config.specs.Firsts.{lawful_more}
 use Rattle.triple.specs.declared.copies.CopyRows.{CopyRows}
@@ -63,9 +63,8 @@ pub record Granted (s : Triple) : Type 0 where
   pub two : two_up s.up ≡ true
   pub room : (longest s.copies).len < 32
 
-pub granted : (s : Triple) (n e k : ℕ) → length s.up ≡ 3 → Ok n ≡ last (meant s.copies s.up) → Ok k ≡ epoch_after n e 32 → Granted s
-granted s n x k three e made =
-    let lt : n < 32 = grind (arith, nat_tests) in
+pub granted : (s : Triple) (n : ℕ) → length s.up ≡ 3 → Ok n ≡ last (meant s.copies s.up) → n < 32 → Granted s
+granted s n three e lt =
     let two : two_up s.up ≡ true = grind (arith, nat_tests) in
     let q = simp two at e in
     let h : n ≡ length (held (longest s.copies)) = cc in

@@ -1,4 +1,4 @@
-use Rattle.std.proofs.Common.{arith}
+use Rattle.std.proofs.Common.{◌<◌, arith, rules}
 use Rattle.std.proofs.lemmas.Bool.Decides.{nat_tests}
 use Rattle.triple.proofs.Level.{granted, sized_after, begins_after, twice_after, fits_after, sound_after, held_after}
 use Rattle.triple.proofs.table.TripleConfigService.store.Goals as goal
@@ -7,7 +7,8 @@ pub invariant_of-self : goal.invariant_of-self
 invariant_of-self c =
     let was = c.args.self.now in
     let row = c.into.result in
-    let g = granted was c.in_ok-last.field-0 c.args.expected c.in_ok-epoch.epoch (omega arith) c.in_ok-last.ensures c.in_ok-epoch.ensures in
+    let room : c.in_ok-last.field-0 < 32 = search (nat_tests, rules) in
+    let g = granted was c.in_ok-last.field-0 (omega arith) c.in_ok-last.ensures room in
     rw c.store.ensures
     record {
       sized = sized_after was row g;
@@ -20,6 +21,7 @@ invariant_of-self c =
 pub returns-clause-after : goal.returns-clause-after
 returns-clause-after c =
     let was = c.args.self.now in
-    let g = granted was c.in_ok-last.field-0 c.args.expected c.in_ok-epoch.epoch (omega arith) c.in_ok-last.ensures c.in_ok-epoch.ensures in
+    let room : c.in_ok-last.field-0 < 32 = search (nat_tests, rules) in
+    let g = granted was c.in_ok-last.field-0 (omega arith) c.in_ok-last.ensures room in
     let h = held_after was c.into.result g in
     grind (arith, nat_tests)
