@@ -1,2 +1,4 @@
 pub mod Lawfuls
 pub mod Stretches
+pub mod States
+pub mod Orders

@@ -24,7 +24,7 @@ use Rattle.law.specs.Lives.{letter, applies, delivers}
 use Rattle.law.proofs.Seen.{Sight, Safe, Says, Seen, first}
 use Rattle.law.proofs.Goals.{OpensWith, Opened, Fact, Goes, refused_goes}
 use Rattle.law.proofs.Frames.{asked, unrefused, past_start}
-use Rattle.law.proofs.Hands.{part_of_list, commit_goes, accept_goes, held_goes, probe_goes}
+use Rattle.law.proofs.Hands.{reach_most, reach_least, part_of_list, commit_goes, accept_goes, held_goes, probe_goes}
 use Rattle.law.proofs.Opens.{newconfig_goes, newstate_goes}
 
 -- a question that is not answered no is answered yes
@@ -96,13 +96,12 @@ module _ (M : Meant) (means : Means M) where
       let a2 = yes_none (ltb k.delivered m) _ _ a.1 in
       let a3 = yes_none (leb m k.length) _ _ a2.1 in
       let p = and_parts (takes_part k.role) (eqb k.epoch e) a.0 in
-      let lt = ltb-true k.delivered m a2.0 in
       let le = leb-true m k.length a3.0 in
       let far = reach m k.delivered in
-      let least : k.delivered ≤ far = omega arith in
+      let least = reach_least m k.delivered (ltb-true k.delivered m a2.0) in
       record {
         view = deliver M.applied (first M) v c far;
-        to = commit_goes M means t s v c far e m i z b p.0 (eqb-true k.epoch e p.1) least (omega arith) le said;
+        to = commit_goes M means t s v c far e m i z b p.0 (eqb-true k.epoch e p.1) least (reach_most m k.delivered) le said;
         fact = record {
           handed = commit_handed t s v n c far e m i z b lm least (omega arith);
           opened = opened_by_none t v _ n c _ (λ e' m' q. cc);

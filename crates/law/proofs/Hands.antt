@@ -13,7 +13,7 @@ use Rattle.machine.specs.declared.controller.Role.{Role}
 use Rattle.machine.specs.declared.controller.Role.TheVariants.{Fresh, Follower, Leader}
 use Rattle.machine.specs.declared.envelope.Envelope.{Envelope}
 use Rattle.machine.specs.declared.envelope.Message.TheVariants.{Held, Probe, Answer}
-use Rattle.machine.specs.Rows.{longer, delivered_to, with_role, told_to, promised as promising, takes_part}
+use Rattle.machine.specs.Rows.{longer, delivered_to, with_role, told_to, promised as promising, reach, takes_part}
 use Rattle.machine.specs.Machine.{Here, at, part, run, grant, put_controller, put_entry, put_committed, delivered, accepted, told, probed}
 use Rattle.protocol.proofs.View.{AllHeld, fold, deliver, accept, promised}
 use Rattle.protocol.proofs.DeliverKeeps.{deliver_keeps}
@@ -25,6 +25,13 @@ use Rattle.law.proofs.Tables.{stretch_apart, part_push}
 use Rattle.law.proofs.Frames.{plays_later, length_list}
 use Rattle.law.proofs.Moves.{stands_as, seen_set, seen_controller, seen_send, seen_post}
 use Rattle.law.proofs.Goals.{To, to_same}
+
+-- how far a COMMIT reaches lies between what is delivered and what it says
+pub reach_most : (n d : ℕ) → reach n d ≤ n
+reach_most n d = omega arith
+
+pub reach_least : (n d : ℕ) → d < n → d ≤ reach n d
+reach_least n d h = omega arith
 
 -- the places from d to r of a list that lies in a stretch
 pub part_of_list : {A : Type 0} (es : List A) (a d r len : ℕ) → d ≤ r → r ≤ len → take (r - d) (drop (a + d) es) ≡ drop d (take r (take len (drop a es)))

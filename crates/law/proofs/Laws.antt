@@ -14,7 +14,7 @@ use Rattle.machine.specs.declared.fault.Fault.TheVariants.{OutOfRange}
 use Rattle.machine.specs.Machine.{Here, After, at, no_envelope, ask, settled, handed, handed_over}
 use Rattle.machine.specs.Changes.{Act, order, settle, hand, act}
 use Rattle.protocol.proofs.View.{Prefix, fold}
-use Rattle.protocol.proofs.Lists.{take_tells, prefix_split, push_last, append_keeps}
+use Rattle.protocol.proofs.Lists.{nth_append, take_tells, prefix_split, append_keeps}
 use Rattle.protocol.proofs.Follows.{key, Back, back}
 use Rattle.protocol.proofs.Later.{held_later}
 use Rattle.law.specs.Lives.{World, Call, opening, outcome, moment, holds, delivers, delivered}
@@ -22,9 +22,10 @@ use Rattle.law.specs.Safety.{Begins, Agree, Stays, Matches, Law}
 use Rattle.law.proofs.Seen.{Sight, Safe, Seen, first}
 use Rattle.law.proofs.Goals.{Fact, Makes, OpensWith, Settled}
 use Rattle.law.proofs.Frames.{asked, past_start}
+use Rattle.law.proofs.Quiet.{settle_goes}
 use Rattle.law.proofs.Hands.{run_means}
 use Rattle.law.proofs.Starts.{nothing, Known}
-use Rattle.law.proofs.Lived.{known_safe, act_leads, Story, story}
+use Rattle.law.proofs.Lived.{idle_leads, known_safe, Story, story}
 
 -- a list with an entry is not empty
 not_nil : {A B : Type 0} (xs : List A) (y : A) (ys : List A) → [] ≡ xs ++ y ∷ ys → B
@@ -64,6 +65,11 @@ module _ (M : Meant) where
   abbrev Grants : ℕ → Type 0 → After M → Type 0
   Grants n A d = d.answer ≡ Ok n → A
 
+  -- what a granted settle says
+  settle_granted : (t : Here M) (s : Configured) (v : Sight M) (c n : ℕ) → Known M t s v → (settled M t c).answer ≡ Ok n → Settled M v c n
+  settle_granted t s v c n (inl (new, k, q)) granted = subst (λ (x : Sight M). Settled M x c n) (sym q) ((idle_leads M t s new k (settle c)).fact.secured n granted)
+  settle_granted t s v c n (inr (i, z)) granted = (settle_goes M t s v c i z).fact.secured n granted
+
   -- only a controller of a started floor delivers
   hand_below : (t : Here M) (n c a : ℕ) → (handed M t n c).answer ≡ Ok a → (c < 8) × (t.started ≡ true)
   hand_below t n c a =
@@ -83,11 +89,6 @@ module _ (M : Meant) where
   delivers_below : (t : Here M) (s : Configured) (k : Act M.Command) (d : ℕ) (a : List (Entry M.Update)) (x : Entry M.Update) (b : List (Entry M.Update)) → delivers M t k (act M t s k).answer d ≡ a ++ x ∷ b → (d < 8) × (t.started ≡ true)
   delivers_below t s (hand n c) d a x b h = hand_delivers t n c d a x b (handed M t n c).answer refl h
   delivers_below t s _ d a x b h = not_nil a x b h
-
-module _ (M : Meant) (means : Means M) where
-  -- what a granted settle says
-  settle_granted : (t : Here M) (s : Configured) (v : Sight M) (c n : ℕ) → Known M t s v → (settled M t c).answer ≡ Ok n → Settled M v c n
-  settle_granted t s v c n k granted = (act_leads M means t s v k (settle c)).fact.secured n granted
 
 module _ (M : Meant) (means : Means M) (w : World M) (ks : List (Call M)) (y : Story M means w (nothing M) ks) where
   safe : (i : ℕ) → Safe M (y.view i)
@@ -126,10 +127,13 @@ module _ (M : Meant) (means : Means M) (w : World M) (ks : List (Call M)) (y : S
   fact_of : (i : ℕ) (k : Call M) (a : Act M.Command) → slice_get ks i ≡ Some k → k.made ≡ a → Fact M (moment M w ks i).floor (y.view i) (y.view (suc i)) a (outcome M (moment M w ks i) k).answer
   fact_of i k a t q = subst (λ (x : Act M.Command). Fact M (moment M w ks i).floor (y.view i) (y.view (suc i)) x (outcome M (moment M w ks i) k).answer) q (y.fact i k t)
 
-  -- a floor of which an epoch is seen opened has been started
-  seen_floor : {t : Here M} {s : Configured} {v : Sight M} → Known M t s v → (e : ℕ) → v.opened e ≡ true → Seen M t s v
-  seen_floor (inl (n, k, q)) e o = absurd (let z = ap (λ (u : Sight M). u.opened e) q in cc)
-  seen_floor (inr (i, z)) e o = z
+  -- a floor of which something is seen has been started
+  seen_floor : {t : Here M} {s : Configured} {v : Sight M} → Known M t s v → 1 ≤ v.last → Seen M t s v
+  seen_floor (inl (n, k, q)) l = absurd (omega (arith, ap (λ (u : Sight M). u.last) q))
+  seen_floor (inr (i, z)) l = z
+
+  seen_opened : {t : Here M} {s : Configured} {v : Sight M} → Known M t s v → (e : ℕ) → v.opened e ≡ true → Seen M t s v
+  seen_opened {t} {s} {v} k e o = let r = (known_safe M t s v k).opens e o in seen_floor k (omega (arith, r.0, r.1))
 
   seen_started : {t : Here M} {s : Configured} {v : Sight M} → Known M t s v → t.started ≡ true → Seen M t s v
   seen_started (inl (n, k, q)) l = absurd (let a = n.started in cc)
@@ -139,18 +143,18 @@ module _ (M : Meant) (means : Means M) (w : World M) (ks : List (Call M)) (y : S
   stays i j c d e e' xs ys p q lt =
       let v = y.view i in
       let t = (moment M w ks i).floor in
-      let s = settle_granted M means t (moment M w ks i).config v c p.count (y.known i) (rw p.made at p.granted) in
+      let s = settle_granted M t (moment M w ks i).config v c p.count (y.known i) (rw p.made at p.granted) in
       let o : OpensWith M (y.view j) (y.view (suc j)) d e' = (fact_of j q.call (hand q.envelope d) q.there q.made).opened q.answer e' q.members q.granted q.says in
       let n = i + suc j in
       let u = y.view n in
       let gi = y.grown i n (omega arith) in
       let gj = y.grown (suc j) n (omega arith) in
       let si = safe i in
-      let zi = seen_floor (y.known i) (v.epoch c) s.held.opened in
+      let zi = seen_opened (y.known i) (v.epoch c) s.held.opened in
       let st = zi.stands c s.below in
       let ep : e ≡ v.epoch c = p.epoch ∙ st.epoch in
       let lt' : v.epoch c < e' = rw ep at lt in
-      let zj = seen_floor (y.after j q.call q.there) e' o.opened in
+      let zj = seen_opened (y.after j q.call q.there) e' o.opened in
       let ys_is : ys ≡ u.opening e' =
       q.list ∙ (zj.stands d o.below).list ∙ o.list ∙ sym o.opening ∙ sym (gj.opening e' o.opened) in
       let held = held_later M.applied (first M) v u si gi (v.epoch c) p.count s.held in
@@ -169,7 +173,7 @@ module _ (M : Meant) (means : Means M) (w : World M) (ks : List (Call M)) (y : S
       let v = y.view n in
       let i = safe n in
       let len = length before in
-      let here : slice_get (v.grown e) len ≡ Some x = pre len x (push_last before x len refl) in
+      let here : slice_get (v.grown e) len ≡ Some x = pre len x (nth_append before x []) in
       let b = back M.applied (first M) v i e len x oe here in
       let b' : Back M.applied (first M) v e len q = subst (λ (z : ℕ). Back M.applied (first M) v e len z) xe b in
       let there : slice_get (v.grown q) len ≡ Some x = b'.alike len x (omega arith) here in
@@ -188,8 +192,8 @@ module _ (M : Meant) (means : Means M) (w : World M) (ks : List (Call M)) (y : S
       let u = (moment M w ks j).floor in
       let v = y.view i in
       let mk : Makes M v (y.view (suc i)) c = (fact_of i p.call (order c p.serial p.command) p.there p.made).made p.answer p.granted in
-      let zi = seen_floor (y.known i) (v.epoch c) ((safe i).lives c mk.some) in
-      let zi2 = seen_floor (y.after i p.call p.there) (v.epoch c) mk.opened in
+      let zi = seen_opened (y.known i) (v.epoch c) ((safe i).lives c mk.some) in
+      let zi2 = seen_opened (y.after i p.call p.there) (v.epoch c) mk.opened in
       let h_before : holds M t c ≡ v.list c = (zi.stands c mk.below).list in
       let h_after : holds M (outcome M (moment M w ks i) p.call).after c ≡ v.list c ++ mk.entry ∷ [] =
       (zi2.stands c mk.below).list ∙ mk.list in

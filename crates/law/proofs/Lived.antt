@@ -49,7 +49,7 @@ module _ (M : Meant) where
       asks_leads M (propose j m l) t s v k (long_tables M t) (cond t.started d (with_config M (refuse M t NotStarted) s)) ShortTables λ _.
       asks_leads M (propose j m l) t s v k t.started d NotStarted λ h. absurd cc
 
-  idle_leads : (t : Here M) (s : Configured) → New M t → Kept s → (a : Act M.Command) → Leads M a t (nothing M) (act M t s a)
+  pub idle_leads : (t : Here M) (s : Configured) → New M t → Kept s → (a : Act M.Command) → Leads M a t (nothing M) (act M t s a)
   idle_leads t s n k (start m l) = start_leads M t s m l n k
   idle_leads t s n k (order c i x) = refused_leads (order c i x) t s (nothing M) (ordered M t c i x) (inl (n, k, refl)) (at_no_controller t c (led M t c i x (at M t c) (at M t c).role) n.started)
   idle_leads t s n k (settle c) = refused_leads (settle c) t s (nothing M) (settled M t c) (inl (n, k, refl)) (at_no_controller t c (settling M t c (at M t c) (at M t c).role) n.started)

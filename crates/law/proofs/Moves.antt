@@ -17,7 +17,7 @@ use Rattle.law.proofs.Frames.{Alike, stands_later, bag_later, bag_more, seats_la
 use Rattle.law.proofs.Tables.{set_at}
 
 module _ (M : Meant) where
-  seen_by : (t u : Here M) (s : Configured) (v w : Sight M) → Safe M v → Grown M v w → Seen M t s v → w.last ≡ v.last → sizes M u ≡ sizes M t → u.sent ≤ 1024
+  pub seen_by : (t u : Here M) (s : Configured) (v w : Sight M) → Safe M v → Grown M v w → Seen M t s v → w.last ≡ v.last → sizes M u ≡ sizes M t → u.sent ≤ 1024
       → ((c : ℕ) → c < 8 → Stands M u w c (at M u c))
       → ((e : ℕ) → w.opened e ≡ true → opening_of u.openings e (get_or u.lengths (e - 1) 0) ≡ w.opening e)
       → ((e : ℕ) → w.opened e ≡ true → get_or u.lengths (e - 1) 0 ≤ 64)
@@ -56,7 +56,7 @@ module _ (M : Meant) where
   }
 
   -- one controller exchanged
-  stands_set : (t u : Here M) (s : Configured) (v w : Sight M) (c : ℕ) (k : Controller) → Safe M v → Grown M v w → Seen M t s v → c < 8
+  pub stands_set : (t u : Here M) (s : Configured) (v w : Sight M) (c : ℕ) (k : Controller) → Safe M v → Grown M v w → Seen M t s v → c < 8
       → u.controllers ≡ set t.controllers c k → Stands M u w c k
       → ((d : ℕ) → d < 8 → (d ≡ c → ⊥) → Alike M t u v w d (at M t d).length)
       → (d : ℕ) → d < 8 → Stands M u w d (at M u d)

@@ -14,7 +14,8 @@ use machine::fault::Fault;
 use machine::tables::Tables;
 use service::Service;
 
-/// Makes a call of a life. It errs as `perform` of the floor does.
+/// Makes a call of a life. Over every life of a floor the law holds, whatever calls it has. It errs as
+/// `perform` of the floor does.
 #[tactic(auto, using(crate::proofs::Steps::steps))]
 pub fn live<S: Service, C: ConfigService>(
     floor: &mut Floor,

@@ -9,9 +9,14 @@ use Rattle.entries.specs.declared.Entry.{Entry}
 use Rattle.protocol.proofs.View.{View, upd, Prefix, fold, AllHeld, deliver}
 use Rattle.protocol.proofs.Inv.{Inv}
 use Rattle.protocol.proofs.Lists.{take_tells, prefix_split}
-use Rattle.protocol.proofs.Later.{held_later, kept_later, deliver_later}
+use Rattle.protocol.proofs.Later.{kept_later, deliver_later}
 
 module _ {U X : Type 0} (ap : X → U → X) (x₀ : X) where
+  -- what every member held of an epoch it still holds
+  deliver_held : (v : View U X) (c n e m : ℕ) → AllHeld ap x₀ v e m → AllHeld ap x₀ (deliver ap x₀ v c n) e m
+  unfolding deliver
+  deliver_held v c n e m a = record { opened = a.opened; within = a.within; each = a.each }
+
   -- what was delivered before begins what is delivered now
   deliver_grows : (v : View U X) (c n : ℕ) → Inv ap x₀ v → length (v.handed c) ≤ n → Prefix ap x₀ (v.handed c) (take n (v.list c))
   deliver_grows v c n i l k x e = let a = i.own c k x e in let b = slice_get_within (v.handed c) k x e in grind (arith, take_tells)
@@ -47,7 +52,7 @@ module _ {U X : Type 0} (ap : X → U → X) (x₀ : X) where
         kept = λ d. elim (cases_eq d c) [
           | inl z ↦
               let w : upd v.handed c (take n (v.list c)) d ≡ take n (v.list c) = grind (arith, nat_tests) in
-              rw (w, length-take-le n (v.list c) m, z) (inr (v.epoch c, omega arith, held_later ap x₀ v (deliver ap x₀ v c n) i g (v.epoch c) n a, λ k x e. let b = i.within c h k x in grind (arith, take_tells)))
+              rw (w, length-take-le n (v.list c) m, z) (inr (v.epoch c, omega arith, deliver_held v c n (v.epoch c) n a, λ k x e. let b = i.within c h k x in grind (arith, take_tells)))
           | inr z ↦
               let w : upd v.handed c (take n (v.list c)) d ≡ v.handed d = grind (arith, nat_tests) in
               kept_later ap x₀ v (deliver ap x₀ v c n) i g d w

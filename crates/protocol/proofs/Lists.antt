@@ -2,6 +2,7 @@
 use Rattle.std.proofs.Common.{◌≡◌, ℕ, zero, suc, ◌<◌, ◌≤◌, ◌⊎◌, List, [], ◌∷◌, ◌++◌, length, take, drop, Some, None, refl, ap, inl, inr, arith}
 use Rattle.std.specs.List.{slice_get}
 use Rattle.std.proofs.lemmas.Bool.{cases_lt}
+use Rattle.std.proofs.lemmas.List.{append-nil, drop_all}
 use Rattle.entries.specs.declared.Entry.{Entry}
 use Rattle.protocol.proofs.View.{Prefix}
 
@@ -13,8 +14,13 @@ module _ {A : Type 0} where
   push_tells (x ∷ xs) y zero = inr (refl, λ e. omega arith)
   push_tells (x ∷ xs) y (suc k) = elim (push_tells xs y k) [ inl (e, p) ↦ inl (e, ap suc p) | inr (e, n) ↦ inr (e, λ p. n (omega arith)) ]
 
+  -- what stands between two lists in a row
+  pub nth_append : (xs : List A) (y : A) (ys : List A) → slice_get (xs ++ y ∷ ys) (length xs) ≡ Some y
+  nth_append [] y ys = refl
+  nth_append (x ∷ xs) y ys = nth_append xs y ys
+
   pub push_last : (xs : List A) (y : A) (k : ℕ) → k ≡ length xs → slice_get (xs ++ y ∷ []) k ≡ Some y
-  push_last xs y k e = elim (push_tells xs y k) [ inl p ↦ p.0 | inr p ↦ absurd (p.1 e) ]
+  push_last xs y k e = rw e (nth_append xs y [])
 
   -- what stands in a list stands in it with more at its end
   pub append_keeps : (xs ys : List A) (x : A) (k : ℕ) → slice_get xs k ≡ Some x → slice_get (xs ++ ys) k ≡ Some x
@@ -29,6 +35,13 @@ module _ {A : Type 0} where
   take_tells (suc n) (x ∷ xs) zero = inl (refl, omega arith)
   take_tells (suc n) (x ∷ xs) (suc k) = elim (take_tells n xs k) [ inl (e, l) ↦ inl (e, omega arith) | inr (e, l) ↦ inr (e, omega arith) ]
 
+  -- lists with the same entry at every place are equal
+  pub same_places : (xs ys : List A) → ((k : ℕ) → slice_get xs k ≡ slice_get ys k) → xs ≡ ys
+  same_places [] [] h = refl
+  same_places [] (y ∷ ys) h = absurd (cc (h 0))
+  same_places (x ∷ xs) [] h = absurd (cc (h 0))
+  same_places (x ∷ xs) (y ∷ ys) h = let e = h 0 in let f = same_places xs ys (λ k. h (suc k)) in cc
+
 module _ {U X : Type 0} (ap : X → U → X) (x₀ : X) where
   -- a beginning is no longer than the whole
   pub prefix_length : (a b : List (Entry U)) → Prefix ap x₀ a b → length a ≤ length b
@@ -41,3 +54,7 @@ module _ {U X : Type 0} (ap : X → U → X) (x₀ : X) where
   prefix_split [] b h = refl
   prefix_split (x ∷ a) [] h = absurd (cc (h 0 x refl))
   prefix_split (x ∷ a) (y ∷ b) h = let e = h 0 x refl in let f = prefix_split a b (λ k. h (suc k)) in cc
+
+  -- two lists that begin each other are equal
+  pub prefix_same : (a b : List (Entry U)) → Prefix ap x₀ a b → Prefix ap x₀ b a → a ≡ b
+  prefix_same a b g h = let e = prefix_split a b g in let d = drop_all (length a) b (prefix_length b a h) in let n = append-nil a in cc

@@ -1,12 +1,12 @@
 -- The rows of a sheet and the fields of a row, taken one at a time.
-use Rattle.std.proofs.Common.{◌≡◌, ℕ, zero, suc, ◌+◌, ◌<◌, ◌≤◌, true, false, cond, List, [], ◌∷◌, length, take, drop, Some, None, refl, ap, suc-add, arith}
+use Rattle.std.proofs.Common.{◌≡◌, ℕ, zero, suc, ◌+◌, ◌<◌, ◌≤◌, true, false, cond, if◌then◌else◌, List, [], ◌∷◌, length, take, drop, Some, None, Option, refl, ap, suc-add, arith}
 use Rattle.std.specs.Prelude.{position, ◌==◌, slice_index}
 use Rattle.std.proofs.lemmas.Bool.Decides.{nat_tests}
 use Rattle.std.proofs.lemmas.List.{take_rest, length-drop}
 use Rattle.std.proofs.lemmas.List.Sums.{fails_before_first}
 use Rattle.std.proofs.lemmas.List.Quantifiers.{position-Some}
 use Rattle.std.specs.List.{position_or_len}
-use Rattle.rows.specs.Sheet.{ended, ends_at, begin_with, rows, row_length, fields}
+use Rattle.rows.specs.Sheet.{ended, ends_at, begin_with, rows, row_length, fields, fields_of}
 
 -- a sheet that is not empty is its first row and the rows of what follows the first CR LF
 pub rows_step : (bs : List ℕ) → 0 < length bs → rows bs ≡ take (row_length bs) bs ∷ rows (drop (row_length bs + 2) bs)
@@ -51,6 +51,21 @@ fields_none bs e =
 
 pub ruleset field_steps = (fields_some, fields_none, take_rest)
 
+-- the bytes before the first comma, or all where there is none
+abbrev pub first_field : List ℕ → List ℕ
+first_field [] = []
+first_field (b ∷ bs) = if b == 44 then [] else b ∷ first_field bs
+
+-- what follows the first comma, where there is one
+abbrev pub after_comma : List ℕ → Option (List ℕ)
+after_comma [] = None
+after_comma (b ∷ bs) = if b == 44 then Some bs else after_comma bs
+
+-- a row is its first field and the fields of what follows its comma
+pub fields_step : (bs : List ℕ) → fields bs ≡ first_field bs ∷ fields_of (after_comma bs)
+fields_step [] = refl
+fields_step (b ∷ bs) = let r = fields_step bs in grind (arith, nat_tests)
+
 -- the row ends at the first CR LF, or with the sheet where there is none
 pub first_end : (bs : List ℕ) (n : ℕ) → (n + 1 < length bs) × (ends_at bs n ≡ true)
     → ((k : ℕ) → k < n → ends_at bs k ≡ false) → n ≡ row_length bs
@@ -73,3 +88,15 @@ no_end (b ∷ c ∷ bs) k =
     rw e (ap suc r)
 
 pub ruleset ends = (first_end, no_end)
+
+-- a row lies within the sheet
+pub row_length_le : (bs : List ℕ) → row_length bs ≤ length bs
+row_length_le [] = omega arith
+row_length_le (b ∷ []) = omega arith
+row_length_le (b ∷ c ∷ bs) = let h = row_length_le (c ∷ bs) in grind (arith, nat_tests)
+
+-- and so does its CR LF, where it has one
+pub row_length_pair : (bs : List ℕ) → row_length bs < length bs → row_length bs + 2 ≤ length bs
+row_length_pair [] h = omega arith
+row_length_pair (b ∷ []) h = omega arith
+row_length_pair (b ∷ c ∷ bs) h = let k = row_length_pair (c ∷ bs) in grind (arith, nat_tests)

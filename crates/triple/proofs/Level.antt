@@ -1,11 +1,12 @@
 -- Copies that a store brings level.
-use Rattle.std.proofs.Common.{◌≡◌, ℕ, ◌<◌, ◌≤◌, Bool, true, false, nat_le, count_by, if◌then◌else◌, List, [], ◌∷◌, ◌++◌, length, All, get_or, Ok, refl, ◌∙◌, arith, length-set}
-use Rattle.std.proofs.lemmas.List.{length-take, take_more_set}
+use Rattle.std.proofs.Common.{◌≡◌, ℕ, ◌+◌, ◌-◌, ◌<◌, ◌≤◌, Bool, true, false, nat_le, count_by, if◌then◌else◌, List, [], ◌∷◌, ◌++◌, length, All, get_or, Ok, refl, sym, subst, ◌∙◌, inl, inr, arith, length-set}
+use Rattle.std.proofs.lemmas.Bool.{cases_Bool}
+use Rattle.std.proofs.lemmas.List.{length-take-le, get_or-take, take_more_set}
 use Rattle.std.proofs.lemmas.List.Elements.{All-nil, All-cons}
 use Rattle.std.proofs.lemmas.Bool.Decides.{nat_tests}
 use Rattle.config.specs.declared.row.ConfigRow.{ConfigRow}
 use Rattle.config.specs.Members.{lawful}
-use Rattle.config.specs.Configured.{last}
+use Rattle.config.specs.Configured.{last, configuration, store_answer, stored, no_row}
 use Rattle.config.specs.Rows.{Lawful}
 use Rattle.config.specs.Firsts.{lawful_more}
 use Rattle.triple.specs.declared.copies.CopyRows.{CopyRows}
@@ -31,6 +32,10 @@ each_stored P t ups r h =
     let at = λ (i : ℕ). copy_stored t r (get_or ups i false) (copy t i) in
     All-cons P (at 0) (at 1 ∷ at 2 ∷ []) (h 0 (omega arith)) (All-cons P (at 1) (at 2 ∷ []) (h 1 (omega arith)) (All-cons P (at 2) [] (h 2 (omega arith)) (All-nil P)))
 
+-- no copy is longer than the longest, which has room for 32 rows as each has
+longest_most : (t : Copies) → ((copy t 0).len ≤ (longest t).len) × ((copy t 1).len ≤ (longest t).len) × ((copy t 2).len ≤ (longest t).len)
+longest_most t = (grind (arith, nat_tests), grind (arith, nat_tests), grind (arith, nat_tests))
+
 longest_sized : (t : Copies) → Sized t → length (longest t).rows ≡ 32
 longest_sized t h =
     let a = h.1 0 no_copy (omega arith) in
@@ -44,18 +49,34 @@ longest_by : (a b c : Bool) (p q s l : CopyRows) → two_up (a ∷ b ∷ c ∷ [
 longest_by a b c p q s l h i j k = grind (arith, nat_tests)
 
 longest_stored : (t : Copies) (ups : List Bool) (r : ConfigRow) → length ups ≡ 3 → two_up ups ≡ true → longest (copies_stored t ups r) ≡ pushed (longest t) r
-longest_stored t (a ∷ b ∷ c ∷ []) r n two = longest_by a b c (copy t 0) (copy t 1) (copy t 2) (pushed (longest t) r) two (grind (arith, nat_tests)) (grind (arith, nat_tests)) (grind (arith, nat_tests))
+longest_stored t (a ∷ b ∷ c ∷ []) r n two =
+    let m = longest_most t in longest_by a b c (copy t 0) (copy t 1) (copy t 2) (pushed (longest t) r) two (omega arith) (omega arith) (omega arith)
 longest_stored t _ r n two = absurd (omega arith)
 
 -- copies that are up hold all of the longest, so at least two do
+holds_all_up : (up : Bool) (p l : CopyRows) → up ≡ true → begins (held l) (held (if up then l else p)) ≡ true
+holds_all_up up p l h = rw h (begins_self (held l))
+
+two_more : (a b c x y z : Bool) → (a ≡ true → x ≡ true) → (b ≡ true → y ≡ true) → (c ≡ true → z ≡ true) → two_up (a ∷ b ∷ c ∷ []) ≡ true
+    → two_up (x ∷ y ∷ z ∷ []) ≡ true
+two_more a b c x y z f g h e = grind (arith, nat_tests)
+
 two_level : (a b c : Bool) (p q s l : CopyRows) → two_up (a ∷ b ∷ c ∷ []) ≡ true
     → nat_le 2 (count_by (λ x. begins (held l) (held x)) ((if a then l else p) ∷ (if b then l else q) ∷ (if c then l else s) ∷ [])) ≡ true
-two_level a b c p q s l h = let e = begins_self (held l) in grind (arith, nat_tests)
+two_level a b c p q s l h = two_more a b c _ _ _ (holds_all_up a p l) (holds_all_up b q l) (holds_all_up c s l) h
 
 two_stored : (t : Copies) (ups : List Bool) (r : ConfigRow) → length ups ≡ 3 → two_up ups ≡ true → two_hold_all (copies_stored t ups r) ≡ true
 two_stored t (a ∷ b ∷ c ∷ []) r three two =
     rw (longest_stored t (a ∷ b ∷ c ∷ []) r three two) (two_level a b c (copy t 0) (copy t 1) (copy t 2) (pushed (longest t) r) two)
 two_stored t _ r three two = absurd (omega arith)
+
+-- what always holds of the three copies
+pub record Keeps (t : Copies) : Type 0 where
+  pub sized : Sized t
+  pub begins : All (λ p. is_beginning t p ≡ true) t.at
+  pub twice : two_hold_all t ≡ true
+  pub fits : (longest t).len ≤ 32
+  pub sound : Lawful (longest t).rows (longest t).len
 
 -- what a granted store has found: two copies or more are up, and the longest has room
 pub record Granted (s : Triple) : Type 0 where
@@ -63,15 +84,39 @@ pub record Granted (s : Triple) : Type 0 where
   pub two : two_up s.up ≡ true
   pub room : (longest s.copies).len < 32
 
+held_length : (t : Copies) → Sized t → (longest t).len ≤ 32 → length (held (longest t)) ≡ (longest t).len
+held_length t s f = let m = longest_sized t s in length-take-le (longest t).len (longest t).rows (omega arith)
+
+-- a last epoch that is answered: the service is open, and the longest copy holds so many rows
+pub answered : (t : Copies) (ups : List Bool) (n : ℕ) → Sized t → (longest t).len ≤ 32 → Ok n ≡ last (meant t ups) → (two_up ups ≡ true) × (n ≡ (longest t).len)
+answered t ups n s f h =
+    let l = held_length t s f in
+    elim (cases_Bool (two_up ups)) [ inl e ↦ (e, grind (arith, nat_tests)) | inr e ↦ absurd (let q = simp e at h in cc) ]
+
+-- the row of an epoch
+pub epoch_row : (t : Copies) (ups : List Bool) (e : ℕ) → Sized t → (longest t).len ≤ 32 → two_up ups ≡ true → 1 ≤ e → e ≤ (longest t).len
+    → configuration (meant t ups) e ≡ Ok (get_or (longest t).rows (e - 1) no_row)
+epoch_row t ups e s f two a b =
+    let l = held_length t s f in
+    let g = get_or-take (longest t).len (longest t).rows (e - 1) no_row (omega arith) in
+    grind (arith, nat_tests)
+
 pub granted : (s : Triple) (n : ℕ) → length s.up ≡ 3 → Ok n ≡ last (meant s.copies s.up) → n < 32 → Granted s
 granted s n three e lt =
-    let two : two_up s.up ≡ true = grind (arith, nat_tests) in
-    let q = simp two at e in
-    let h : n ≡ length (held (longest s.copies)) = cc in
-    let l = length-take (longest s.copies).len (longest s.copies).rows in
-    let m = longest_sized s.copies s.sized in
-    let f = s.fits in
-    record { three = three; two = two; room = omega arith }
+    let a = answered s.copies s.up n s.sized s.fits e in record { three = three; two = a.0; room = let q = a.1 in omega arith }
+
+-- one row more in the longest copy, for which there is room
+module _ (t : Copies) (r : ConfigRow) (sized : Sized t) (room : (longest t).len < 32) where
+  held_pushed : held (pushed (longest t) r) ≡ held (longest t) ++ r ∷ []
+  held_pushed = let n = longest_sized t sized in take_more_set (longest t).rows (longest t).len r (omega arith)
+
+  begins_stored : (up : Bool) (p : CopyRows) → is_beginning t p ≡ true → begins (held (copy_stored t r up p)) (held (pushed (longest t) r)) ≡ true
+  begins_stored true p h = begins_self (held (pushed (longest t) r))
+  begins_stored false p h = rw held_pushed (begins_more (held p) (held (longest t)) (r ∷ []) h)
+
+  sized_stored : (up : Bool) (p : CopyRows) → length p.rows ≡ 32 → length (copy_stored t r up p).rows ≡ 32
+  sized_stored true p h = length-set (longest t).rows (longest t).len r ∙ longest_sized t sized
+  sized_stored false p h = h
 
 module _ (s : Triple) (r : ConfigRow) (g : Granted s) where
   abbrev old : CopyRows
@@ -80,30 +125,16 @@ module _ (s : Triple) (r : ConfigRow) (g : Granted s) where
   abbrev new : Copies
   new = copies_stored s.copies s.up r
 
-  room : old.len < length old.rows
-  room = let n = longest_sized s.copies s.sized in let b = g.room in omega arith
-
   longest_after : longest new ≡ pushed old r
   longest_after = longest_stored s.copies s.up r g.three g.two
 
-  held_pushed : held (pushed old r) ≡ held old ++ r ∷ []
-  held_pushed = take_more_set old.rows old.len r room
-
-  copy_sized : (up : Bool) (p : CopyRows) → length p.rows ≡ 32 → length (copy_stored s.copies r up p).rows ≡ 32
-  copy_sized true p h = length-set old.rows old.len r ∙ longest_sized s.copies s.sized
-  copy_sized false p h = h
-
-  copy_begins : (up : Bool) (p : CopyRows) → is_beginning s.copies p ≡ true → begins (held (copy_stored s.copies r up p)) (held (pushed old r)) ≡ true
-  copy_begins true p h = begins_self (held (pushed old r))
-  copy_begins false p h = rw held_pushed (begins_more (held p) (held old) (r ∷ []) h)
-
   pub sized_after : Sized new
-  sized_after = (refl, each_stored (λ p. length p.rows ≡ 32) s.copies s.up r (λ i lt. copy_sized (get_or s.up i false) (copy s.copies i) (s.sized.1 i no_copy (omega arith))))
+  sized_after = (refl, each_stored (λ p. length p.rows ≡ 32) s.copies s.up r (λ i lt. sized_stored s.copies r s.sized g.room (get_or s.up i false) (copy s.copies i) (s.sized.1 i no_copy (omega arith))))
 
   pub begins_after : All (λ p. is_beginning new p ≡ true) new.at
   begins_after =
       rw longest_after
-      (each_stored (λ p. begins (held p) (held (pushed old r)) ≡ true) s.copies s.up r (λ i lt. copy_begins (get_or s.up i false) (copy s.copies i) (s.begins i no_copy (omega arith))))
+      (each_stored (λ p. begins (held p) (held (pushed old r)) ≡ true) s.copies s.up r (λ i lt. begins_stored s.copies r s.sized g.room (get_or s.up i false) (copy s.copies i) (s.begins i no_copy (omega arith))))
 
   pub twice_after : two_hold_all new ≡ true
   twice_after = two_stored s.copies s.up r g.three g.two
@@ -112,7 +143,23 @@ module _ (s : Triple) (r : ConfigRow) (g : Granted s) where
   fits_after = let b = g.room in rw longest_after (omega arith)
 
   pub sound_after : lawful r.members r.leader ≡ true → Lawful (longest new).rows (longest new).len
-  sound_after l = rw longest_after (lawful_more old.rows old.len r room s.sound l)
+  sound_after l = rw longest_after (lawful_more old.rows old.len r (let n = longest_sized s.copies s.sized in let b = g.room in omega arith) s.sound l)
+
+  stored_keeps : lawful r.members r.leader ≡ true → Keeps new
+  stored_keeps l = record { sized = sized_after; begins = begins_after; twice = twice_after; fits = fits_after; sound = sound_after l }
+
+  pub keeps_after : (n : Copies) → n ≡ new → lawful r.members r.leader ≡ true → Keeps n
+  keeps_after n e l = subst Keeps (sym e) (stored_keeps l)
 
   pub held_after : held (longest new) ≡ held old ++ r ∷ []
-  held_after = rw longest_after held_pushed
+  held_after = rw longest_after (held_pushed s.copies r s.sized g.room)
+
+  pub granted_epoch : (e : ℕ) → e ≡ old.len → store_answer (meant s.copies s.up) e ≡ Ok (e + 1)
+  granted_epoch e h =
+      let b = g.room in
+      let o = g.two in
+      let l = held_length s.copies s.sized s.fits in
+      grind (arith, nat_tests)
+
+  pub meant_after : (n : Copies) → n ≡ new → (e : ℕ) → e ≡ old.len → meant n s.up ≡ stored (meant s.copies s.up) e r
+  meant_after n q e h = rw (granted_epoch e h, q, held_after) refl

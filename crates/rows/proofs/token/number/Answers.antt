@@ -1,6 +1,10 @@
-use Rattle.std.proofs.Common.{ℕ, ◌+◌, ◌*◌, ◌^◌, ◌<◌, ◌≤◌, length, arith}
+use Rattle.std.proofs.Common.{ℕ, ◌+◌, ◌*◌, ◌^◌, ◌<◌, ◌≤◌, length, pow-suc, add-one, arith}
 use native.Mathlib.Nat.{pow-le-pow_right}
 use Rattle.rows.proofs.token.number.Goals as goal
+
+-- one digit more
+larger : (n d i : ℕ) → n < 10 ^ i → d ≤ 9 → n * 10 + d < 10 ^ (i + 1)
+larger n d i h l = rw (add-one, pow-suc) (omega arith)
 
 -- before the last of at most nine digits there is room for one more
 room : (n i k : ℕ) → n < 10 ^ i → i < k → k ≤ 9 → n * 10 + 9 < 1000000000
