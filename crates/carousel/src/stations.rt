@@ -1,5 +1,5 @@
 ghost use Rattle.std.specs.Prelude.{◌≡◌, ℕ, ◌<◌, ◌==◌, true, IfSome, slice_index, position};
-ghost use Rattle.carousel.specs.Stations.{all_tools, none_twice, is_carousel, straight, found, exchanged};
+ghost use Rattle.carousel.specs.Stations.{holds, all_tools, none_twice, is_carousel, straight, found, exchanged};
 
 use crate::CarouselRow;
 
@@ -15,13 +15,20 @@ fn all_tools(stations: &[u8]) -> bool
     stations.iter().all(|tool| *tool < TOOLS)
 }
 
+// Whether one of the stations holds the tool. A slice's `contains` takes longer over so few.
+fn has(stations: &[u8], tool: u8) -> bool
+    ensures { result ≡ holds stations.now tool }
+{
+    stations.iter().any(|t| *t == tool)
+}
+
 /// Whether no two stations hold the same tool.
 fn none_twice(stations: &[u8]) -> bool
     ensures { result ≡ none_twice stations.now }
 {
     match stations {
         [] => true,
-        [tool, rest @ ..] => !rest.contains(tool) && none_twice(rest),
+        [tool, rest @ ..] => !has(rest, *tool) && none_twice(rest),
     }
 }
 

@@ -7,6 +7,7 @@ use std::marker::Model;
 pub const CONTROLLERS: u32 = 8;
 
 /// A set of controllers. A clause sees it as the sum of 2^c over its controllers c.
+// Values that are copied hold the number: one that held a set would not be copied where it is passed on twice.
 #[derive(Clone, Copy, Debug, Default, PartialEq, Eq)]
 pub struct Members {
     bits: u8,

@@ -1,5 +1,5 @@
 -- A floor and its tables as the machine sees them.
-use Rattle.std.specs.Prelude.{◌≤◌, vec_items, vec_len, slice_index_or}
+use Rattle.std.specs.Prelude.{◌≡◌, ◌≤◌, vec_items, vec_len, slice_index_or}
 use Rattle.machine.specs.Rows.{no_controller}
 use Rattle.machine.specs.Machine.{State}
 use Rattle.machine.specs.declared.controller.Controller.{Controller}
@@ -24,6 +24,10 @@ seen f t = record {
 -- the controller of this number
 abbrev pub controller_at : Floor → ControllerId → Controller
 controller_at f id = slice_index_or f.controllers id.number no_controller
+
+-- the same floor but for its controllers
+abbrev pub Beside : Floor → Floor → Type 0
+Beside f g = (g.started ≡ f.started) × (g.seats ≡ f.seats) × (g.lengths ≡ f.lengths) × (g.sent ≡ f.sent)
 
 -- tables that are long enough
 pub record AreLong {S C U : Type 0} (t : Tables S C U) : Type 0 where

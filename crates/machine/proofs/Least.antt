@@ -55,6 +55,10 @@ pub least_is : (l : Lead) (c own : ℕ) → least l c own ≡ least_among l.memb
 unfolding least
 least_is l c own = folded_is l.members l.told c own 8
 
+-- one controller more, by its number's successor
+pub one_among : (m : ℕ) (told : List (Option ℕ)) (c own k : ℕ) → least_among m told c own (k + 1) ≡ lesser_if (other m c k) (get_or told k None) (least_among m told c own k)
+one_among m told c own k = simp add-one
+
 -- one more length taken into account leaves no more than there was, and no more than that length
 lesser_le : (b : Bool) (h o : Option ℕ) (n : ℕ) → lesser_if b h o ≡ Some n → (a : ℕ) × (o ≡ Some a) × (n ≤ a)
 lesser_le false h o n q = (n, q, omega arith)

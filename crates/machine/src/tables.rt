@@ -3,7 +3,7 @@ ghost use Rattle.service.specs.Meant.{meant_by};
 ghost use Rattle.machine.specs.Blank.{Blank, blank};
 
 use crate::envelope::{Envelope, Message};
-use config::members::{CONTROLLERS, Members};
+use config::members::CONTROLLERS;
 use config::service::EPOCHS;
 use entries::Entry;
 use service::Service;
@@ -32,11 +32,15 @@ pub struct Tables<S: Service> {
 }
 
 // A table of n rows like this one.
-#[tactic(auto, unfolding(crate::specs::Blank::blank))]
+// Pushed one by one: collected, each row would lie on the stack twice, and a state may be large.
 fn filled<T: Copy>(heap: Global, row: T, n: u32) -> Result<Vec<T>, AllocError>
     ensures { IfOk result (λ v. v.items ≡ blank n row) }
 {
-    (0..n).map(|_| row).collect(heap)
+    let mut rows = Vec::with_capacity(heap, n as usize)?;
+    for _i in 0..n {
+        rows.push(row)?;
+    }
+    Ok(rows)
 }
 
 impl<S: Service> Tables<S> {
@@ -51,7 +55,7 @@ impl<S: Service> Tables<S> {
         };
         let envelope = Envelope {
             sender: 0,
-            to: Members::NONE,
+            to: 0,
             message: Message::Commit { epoch: 0, count: 0 },
         };
         Ok(Tables {

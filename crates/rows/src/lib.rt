@@ -7,4 +7,4 @@ pub mod token;
 
 pub use line::Line;
 pub use row::{Rows, is_printable, rows_of};
-pub use token::{Fields, Token, fields_of};
+pub use token::{Cut, Fields, Token, fields_of, first_field};

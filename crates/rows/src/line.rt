@@ -8,6 +8,9 @@ use std::alloc::AllocError;
 /// The most bytes that a line takes: five numbers of at most ten digits, four commas, CR LF.
 pub const LINE_ROOM: usize = 56;
 
+// Four commas, CR LF.
+const ENDS: usize = 6;
+
 /// A line of the answers: the row, the sheet's and the floor's numbers, the number inside, and the answer.
 #[derive(Clone, Copy, Debug, PartialEq, Eq)]
 pub struct Line {
@@ -27,17 +30,26 @@ impl Line {
         ensures capacity { string_capacity out.old ≤ string_capacity out.new }
         ensures within { string_len out.new ≤ string_len out.old + LINE_ROOM }
     {
-        out.reserve(LINE_ROOM)?;
-        let mut digits = Buffer::new();
-        out.push_str(digits.format(self.row))?;
+        let mut row = Buffer::new();
+        let mut sheet = Buffer::new();
+        let mut floor = Buffer::new();
+        let mut inside = Buffer::new();
+        let mut answer = Buffer::new();
+        let row = row.format(self.row);
+        let sheet = sheet.format(self.sheet);
+        let floor = floor.format(self.floor);
+        let inside = inside.format(self.inside);
+        let answer = answer.format(self.answer);
+        out.reserve(row.len() + sheet.len() + floor.len() + inside.len() + answer.len() + ENDS)?;
+        out.push_str(row)?;
         out.push_str(",")?;
-        out.push_str(digits.format(self.sheet))?;
+        out.push_str(sheet)?;
         out.push_str(",")?;
-        out.push_str(digits.format(self.floor))?;
+        out.push_str(floor)?;
         out.push_str(",")?;
-        out.push_str(digits.format(self.inside))?;
+        out.push_str(inside)?;
         out.push_str(",")?;
-        out.push_str(digits.format(self.answer))?;
+        out.push_str(answer)?;
         out.push_str("\r\n")
     }
 }

@@ -1,6 +1,7 @@
-ghost use Rattle.std.specs.Prelude.{◌≡◌, ◌==◌, if◌then◌else◌, Some, None, position};
+ghost use Rattle.std.specs.Prelude.{◌≡◌, ◌==◌, ◌∷◌, if◌then◌else◌, Some, None, position};
+ghost use Rattle.std.specs.Option.{option_map};
 ghost use Rattle.std.specs.Iterator.{item_count};
-ghost use Rattle.rows.specs.Sheet.{fields, is_number, value_after, said_of};
+ghost use Rattle.rows.specs.Sheet.{fields, fields_of, is_number, value_after, said_of};
 ghost use Rattle.rows.specs.Left.{fields_left, YieldsField};
 ghost use Rattle.rows.specs.Tokens.{said, part_of};
 
@@ -59,6 +60,32 @@ fn first_comma(row: &[u8]) -> Option<usize>
     row.iter().position(|b| *b == COMMA)
 }
 
+/// A row's first field, and what follows its comma.
+#[derive(Clone, Copy, Debug, PartialEq, Eq)]
+pub struct Cut<'a> {
+    pub first: Token<'a>,
+    /// None where the row has no comma.
+    pub rest: Option<&'a [u8]>,
+}
+
+/// The first field of a row, which every row has: that of an empty row is empty.
+#[tactic(auto, using(crate::proofs::Steps::field_steps))]
+pub fn first_field(row: &[u8]) -> Cut<'_>
+    ensures said { said result.first ≡ said_of (part_of result.first) }
+    ensures fields { fields row.now ≡ part_of result.first ∷ fields_of (option_map (λ x. x.now) result.rest) }
+{
+    let Some(at) = first_comma(row) else {
+        return Cut {
+            first: token_of(row),
+            rest: None,
+        };
+    };
+    Cut {
+        first: token_of(&row[..at]),
+        rest: Some(&row[at + 1..]),
+    }
+}
+
 /// The fields of a row: the parts between its commas. An empty row has one empty field.
 // An iterator of its own, since the type of a slice's `split` names a closure.
 #[derive(Clone, Debug, Drop)]
@@ -76,13 +103,9 @@ impl<'a> Iterator for Fields<'a> {
 
     #[tactic(auto, using(crate::proofs::Steps::field_steps))]
     fn next(&mut self) -> Option<Token<'a>> {
-        let row = self.rest?;
-        let Some(at) = first_comma(row) else {
-            self.rest = None;
-            return Some(token_of(row));
-        };
-        self.rest = Some(&row[at + 1..]);
-        Some(token_of(&row[..at]))
+        let Cut { first, rest } = first_field(self.rest?);
+        self.rest = rest;
+        Some(first)
     }
 }
 

@@ -3,7 +3,6 @@ ghost use Rattle.triple.specs.Copies.{pushed, held as held_by, longer as longer_
 
 use config::row::ConfigRow;
 use config::service::EPOCHS;
-use std::array;
 
 // One copy of the list: its first `len` rows. They are no `ArrayVec`, since a copy is made level
 // with another by assignment, where an `ArrayVec` has only a clone that may fail.
@@ -69,11 +68,14 @@ impl Copies {
         ensures { self.new ≡ copies_stored self.old up.now row }
     {
         let level = self.longest().with(row);
-        let before = *self;
-        self.at = array::from_fn(
-            |i|
-                requires { i < 3 }
-            { if up[i] { level } else { before.at[i] } },
-        );
+        if up[0] {
+            self.at[0] = level;
+        }
+        if up[1] {
+            self.at[1] = level;
+        }
+        if up[2] {
+            self.at[2] = level;
+        }
     }
 }

@@ -115,7 +115,8 @@ impl ConfigService for Triple {
 
     // Two copies or more are up.
     fn is_open(&self) -> bool {
-        self.up.iter().filter(|up| **up).count() >= 2
+        let [first, second, third] = self.up;
+        u8::from(first) + u8::from(second) + u8::from(third) >= 2
     }
 
     // Besides, each copy that is up is level afterwards, and each that is down is as it was.

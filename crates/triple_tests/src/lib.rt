@@ -4,7 +4,7 @@
 #[cfg(test)]
 mod tests {
     use config::configuration::Configuration;
-    use config::row::ConfigFault;
+    use config::row::{ConfigFault, ConfigRow};
     use config::service::ConfigService;
     use triple::fault::CopyFault;
     use triple::table::Triple;
@@ -13,6 +13,12 @@ mod tests {
     fn store(table: &mut Triple, expected: u32, members: u32) -> Result<u32, ConfigFault> {
         let configuration = Configuration::new(members, 0).ok_or(ConfigFault::NoEpoch)?;
         table.store(expected, configuration)
+    }
+
+    // The members of an epoch's configuration.
+    fn members(table: &Triple, epoch: u32) -> Result<u8, ConfigFault> {
+        let row = ConfigRow::from(table.configuration(epoch)?);
+        Ok(row.members)
     }
 
     // Each store misses another copy; copy 0, which is read at last, has missed the second.
@@ -27,9 +33,9 @@ mod tests {
         assert_eq!(rt; table.up(0), Ok(()));
         assert_eq!(rt; table.down(1), Ok(()));
         assert_eq!(rt; store(&mut table, 2, 7), Ok(3));
-        assert_eq!(rt; table.configuration(1).ok(), Configuration::new(1, 0));
-        assert_eq!(rt; table.configuration(2).ok(), Configuration::new(3, 0));
-        assert_eq!(rt; table.configuration(3).ok(), Configuration::new(7, 0));
+        assert_eq!(rt; members(&table, 1), Ok(1));
+        assert_eq!(rt; members(&table, 2), Ok(3));
+        assert_eq!(rt; members(&table, 3), Ok(7));
     }
 
     #[test]
@@ -44,7 +50,7 @@ mod tests {
         assert_eq!(rt; table.last(), Err(ConfigFault::Closed));
         assert_eq!(rt; table.up(0), Ok(()));
         assert_eq!(rt; table.last(), Ok(1));
-        assert_eq!(rt; table.configuration(1).ok(), Configuration::new(1, 0));
+        assert_eq!(rt; members(&table, 1), Ok(1));
         assert_eq!(rt; store(&mut table, 0, 3), Err(ConfigFault::Stale));
         assert_eq!(rt; store(&mut table, 1, 3), Ok(2));
     }

@@ -43,7 +43,7 @@ impl<S: Service> Turn<'_, S> {
         self.tables.speculative[self.id.index()] = self.caught_up(me.length);
         self.keep_opening(epoch);
         let lead = Lead {
-            members,
+            members: members.into(),
             told: [None; CONTROLLERS as usize],
             settled: 0,
         };

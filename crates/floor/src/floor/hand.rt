@@ -10,7 +10,7 @@ use super::Floor;
 use super::turn::Turn;
 use crate::ids::EpochId;
 use entries::Entry;
-use machine::controller::{Controller, Lead, Role};
+use machine::controller::{Lead, Role};
 use machine::envelope::Message;
 use machine::fault::Fault;
 use machine::tables::Tables;
@@ -73,16 +73,13 @@ impl<S: Service> Turn<'_, S> {
                 follower,
                 ..
             } => {
-                let me = self.me();
-                self.put(Controller {
-                    role: heard(me.role, follower, length),
-                    ..me
-                });
+                let role = heard(self.me().role, follower, length);
+                self.floor.assign(self.id, role);
             }
             Message::Probe { new, epoch, seat } => self.take_probe(new, epoch, seat),
             Message::Answer { .. } => unreachable!(),
             Message::NewConfig { epoch, members } => {
-                self.take_newconfig(EpochId::new(epoch), members);
+                self.take_newconfig(EpochId::new(epoch), members.into());
             }
             Message::NewState { epoch } => {
                 self.take_newstate(sender, EpochId::new(epoch));
@@ -101,10 +98,7 @@ impl<S: Service> Turn<'_, S> {
         let me = self.me();
         let reached = me.reach(count);
         self.tables.committed[self.id.index()] = self.caught_up(reached);
-        self.put(Controller {
-            delivered: reached,
-            ..me
-        });
+        self.floor.deliver_to(self.id, reached);
         reached - me.delivered
     }
 

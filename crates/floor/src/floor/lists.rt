@@ -18,12 +18,9 @@ impl<S: Service> Turn<'_, S> {
         ensures same { Same self.old self.new }
         ensures after { seen_by self.new ≡ appended (meant_by S.Service) (seen_by self.old) self.old.id.number (mine self.old) entry }
     {
-        let me = self.me();
-        Stretch::new(self.id, me.length).append(&mut self.tables.entries, entry);
-        self.put(Controller {
-            length: me.length + 1,
-            ..me
-        });
+        let length = self.me().length;
+        Stretch::new(self.id, length).append(&mut self.tables.entries, entry);
+        self.floor.lengthen(self.id);
     }
 
     // The controller's committed state, with its entries up to this place that are not delivered.

@@ -8,6 +8,7 @@ ghost use Rattle.floor.specs.Seen.{seen};
 use super::Floor;
 use super::turn::Turn;
 use crate::stretch::Stretch;
+use config::members::Members;
 use entries::Entry;
 use machine::controller::Lead;
 use machine::envelope::Message;
@@ -38,7 +39,7 @@ impl Floor {
         }
         let state = tables.speculative[id.index()];
         let worked = state.work(command)?;
-        self.space_for(lead.members.without(controller))?;
+        self.space_for(Members::from(lead.members).without(controller))?;
         let entry = Entry {
             epoch: me.epoch,
             serial,
@@ -70,6 +71,9 @@ impl<S: Service> Turn<'_, S> {
             place: me.length,
             entry,
         };
-        self.send(lead.members.without(self.id.number()), message);
+        self.send(
+            Members::from(lead.members).without(self.id.number()),
+            message,
+        );
     }
 }

@@ -6,7 +6,7 @@ ghost use Rattle.floor.specs.Seen.{controller_at};
 
 use super::Floor;
 use crate::ids::ControllerId;
-use config::members::CONTROLLERS;
+use config::members::{CONTROLLERS, Members};
 use config::service::EPOCHS;
 use machine::controller::Controller;
 use machine::envelope::{Envelope, Message};
@@ -31,7 +31,7 @@ impl Floor {
         if !self.at(id).running {
             return Err(Fault::Stopped);
         }
-        if !envelope.to.has(id.number()) {
+        if !Members::from(envelope.to).has(id.number()) {
             return Err(Fault::NotAddressed);
         }
         self.may_take(id, envelope)
@@ -67,7 +67,7 @@ impl Floor {
             Message::Probe { new, .. } if me.promise > new => Err(Fault::WrongState),
             Message::Answer { .. } => Err(Fault::NotAddressed),
             Message::NewConfig { epoch, .. } if !may_open(&me, epoch) => Err(Fault::WrongState),
-            Message::NewConfig { members, .. } => self.space_for(members.without(c)),
+            Message::NewConfig { members, .. } => self.space_for(Members::from(members).without(c)),
             Message::NewState { epoch } if !awaits(&me, epoch) => Err(Fault::WrongState),
             Message::NewState { epoch } if self.lengths[(epoch - 1) as usize] < me.delivered => Err(
                 Fault::NoGround,

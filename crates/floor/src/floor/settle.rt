@@ -5,7 +5,7 @@ ghost use Rattle.floor.specs.Seen.{seen};
 
 use super::Floor;
 use super::turn::Turn;
-use machine::controller::{Controller, Lead, Role};
+use machine::controller::{Lead, Role};
 use machine::envelope::Message;
 use machine::fault::Fault;
 use machine::tables::Tables;
@@ -28,7 +28,7 @@ impl Floor {
         if count <= lead.settled {
             return Err(Fault::NothingNew);
         }
-        self.space_for(lead.members)?;
+        self.space_for(lead.members.into())?;
         let role = Role::Leader(Lead {
             settled: count,
             ..lead
@@ -42,8 +42,8 @@ impl Floor {
             tables,
             id,
         };
-        turn.put(Controller { role, ..me });
-        turn.send(lead.members, message);
+        turn.floor.assign(id, role);
+        turn.send(lead.members.into(), message);
         Ok(count)
     }
 }

@@ -2,7 +2,7 @@ ghost use Rattle.std.specs.Prelude.{◌≡◌, ◌<◌, ◌≤◌, true, length,
 ghost use Rattle.service.specs.Meant.{meant_by};
 ghost use Rattle.machine.specs.Rows.{no_controller, all_joined, joined as joined_as};
 ghost use Rattle.machine.specs.Machine.{started_by, opened, all_first};
-ghost use Rattle.floor.specs.New.{New, fresh as fresh_controller};
+ghost use Rattle.floor.specs.New.{New};
 ghost use Rattle.floor.specs.Seen.{seen, AreLong};
 
 use super::asks::long_enough;
@@ -17,20 +17,6 @@ use machine::seat::{SEATS, Seat};
 use machine::tables::Tables;
 use service::Service;
 use std::array;
-
-// A controller that has done nothing yet.
-fn fresh() -> Controller
-    ensures { result ≡ fresh_controller }
-{
-    Controller {
-        running: true,
-        role: Role::Fresh,
-        epoch: 0,
-        promise: 0,
-        length: 0,
-        delivered: 0,
-    }
-}
 
 // The controller `this` as the start of an epoch 1 with this configuration leaves it.
 fn joined(row: &ConfigRow, controllers: &Controllers, this: usize) -> Controller
@@ -80,9 +66,17 @@ impl Floor {
     pub fn new() -> Floor
         ensures { New result }
     {
+        let fresh = Controller {
+            running: true,
+            role: Role::Fresh,
+            epoch: 0,
+            promise: 0,
+            length: 0,
+            delivered: 0,
+        };
         Floor {
             started: false,
-            controllers: [fresh(); CONTROLLERS as usize],
+            controllers: [fresh; CONTROLLERS as usize],
             seats: Seats {
                 at: [Seat::Idle; SEATS as usize],
             },
@@ -108,9 +102,7 @@ impl Floor {
             return Err(Fault::Started);
         }
         let configuration = Configuration::new(members, leader).ok_or(Fault::Unlawful)?;
-        // a copy, since a value with a model inside is moved when it is passed
-        let stored = configuration;
-        config.store(0, stored)?;
+        config.store(0, configuration)?;
         self.open_first(tables, ConfigRow::from(configuration));
         Ok(1)
     }

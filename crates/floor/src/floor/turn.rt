@@ -1,4 +1,5 @@
-ghost use Rattle.std.specs.Prelude.{◌≡◌, ◌<◌, true};
+ghost use Rattle.std.specs.Prelude.{◌≡◌, ◌<◌, ◌≤◌, true};
+ghost use Rattle.machine.specs.Rows.{longer, delivered_to, with_role};
 ghost use Rattle.service.specs.Meant.{meant_by};
 ghost use Rattle.config.specs.Members.{only};
 ghost use Rattle.machine.specs.Machine.{space, put_controller, post as posting, send as sending};
@@ -9,7 +10,7 @@ ghost use Rattle.floor.specs.Seen.{AreLong};
 use super::Floor;
 use crate::ids::ControllerId;
 use config::members::Members;
-use machine::controller::Controller;
+use machine::controller::{Controller, Role};
 use machine::envelope::{Envelope, Message};
 use machine::tables::Tables;
 use service::Service;
@@ -24,6 +25,42 @@ pub(super) struct Turn<'a, S: Service> {
     pub(super) tables: &'a mut Tables<S>,
     pub(super) id: ControllerId,
     ghost long: { AreLong tables.now },
+}
+
+// One part of a controller is written here, and not by a turn: through its loan of the floor only a whole
+// controller can be written, which takes longer.
+impl Floor {
+    ghost use Rattle.std.specs.Prelude.{slice_set};
+    ghost use Rattle.floor.specs.Seen.{controller_at, Beside};
+
+    // Its list has one place more.
+    #[tactic(auto, using(crate::proofs::Lawfuls::lawful_set))]
+    pub(super) fn lengthen(&mut self, id: ControllerId)
+        requires { (controller_at self.old id).length < 64 }
+        ensures beside { Beside self.old self.new }
+        ensures after { self.new.controllers ≡ slice_set self.old.controllers id.number (longer (controller_at self.old id)) }
+    {
+        self.controllers[id.index()].length += 1;
+    }
+
+    // So many of its places are delivered.
+    #[tactic(auto, using(crate::proofs::Lawfuls::lawful_set))]
+    pub(super) fn deliver_to(&mut self, id: ControllerId, reached: u32)
+        requires { reached ≤ (controller_at self.old id).length }
+        ensures beside { Beside self.old self.new }
+        ensures after { self.new.controllers ≡ slice_set self.old.controllers id.number (delivered_to (controller_at self.old id) reached) }
+    {
+        self.controllers[id.index()].delivered = reached;
+    }
+
+    // It has this role.
+    #[tactic(auto, using(crate::proofs::Lawfuls::lawful_set))]
+    pub(super) fn assign(&mut self, id: ControllerId, role: Role)
+        ensures beside { Beside self.old self.new }
+        ensures after { self.new.controllers ≡ slice_set self.old.controllers id.number (with_role (controller_at self.old id) role) }
+    {
+        self.controllers[id.index()].role = role;
+    }
 }
 
 impl<S: Service> Turn<'_, S> {
@@ -54,7 +91,7 @@ impl<S: Service> Turn<'_, S> {
     {
         self.tables.envelopes[self.floor.sent as usize] = Envelope {
             sender: self.id.number(),
-            to,
+            to: to.into(),
             message,
         };
         self.floor.sent += 1;
